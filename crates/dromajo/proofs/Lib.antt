@@ -1,0 +1,9 @@
+pub mod Numbers
+pub mod Pairs
+pub mod Filling
+pub mod Telling
+pub mod Digits
+pub mod Turns
+pub mod Runs
+pub mod Images
+pub mod Reporting

@@ -1,0 +1,13 @@
+-- The number of each status, with which the program ends.
+use Rattle.std.specs.Prelude.{ℕ}
+use Rattle.dromajo.specs.declared.status.Status.{Status}
+use Rattle.dromajo.specs.declared.status.Status.TheVariants.{Done, Usage, BadElf, ReadFault, WriteFault, NoMemory, NotBuilt}
+
+abbrev pub code_of : Status → ℕ
+code_of Done = 0
+code_of Usage = 2
+code_of (BadElf fault) = 4
+code_of (ReadFault which) = 7
+code_of (WriteFault which) = 8
+code_of NoMemory = 9
+code_of (NotBuilt word pc) = 13

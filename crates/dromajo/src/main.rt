@@ -1,0 +1,52 @@
+//! The reference model's program: it does what the words of the command line name, and reports it in
+//! one line. [`dromajo`] is the whole of it; `main` hands it the real files and streams.
+#![tactic(auto)]
+
+mod image;
+mod report;
+mod run;
+mod status;
+#[cfg(test)]
+mod tests;
+mod top;
+mod turn;
+mod words;
+
+use outside_io::{DirFiles, StdSink, StdSource};
+pub use status::{ElfFault, Status, Which};
+use std::alloc::AllocError;
+use std::env;
+use std::process::ExitCode;
+pub use top::dromajo;
+pub use words::MOST_TURNS;
+
+/// The words of the command line without the program's name: none where one of them is not text.
+fn command_line(rt: &HostRuntime) -> Result<Vec<String>, AllocError> {
+    let mut words = Vec::new(rt.alloc());
+    let Ok(all) = env::args(rt) else {
+        return Ok(words);
+    };
+    for word in all.skip(1) {
+        words.push(word)?;
+    }
+    Ok(words)
+}
+
+fn main(rt: HostRuntime) -> ExitCode {
+    let Ok(words) = command_line(&rt) else {
+        return ExitCode::from(Status::NoMemory.code());
+    };
+    let mut files = DirFiles::new(&rt);
+    let mut input = StdSource::new(rt.stdin());
+    let mut out = StdSink::new(rt.stdout());
+    let mut report = StdSink::new(rt.stderr());
+    let status = dromajo(
+        rt.alloc(),
+        &words,
+        &mut files,
+        &mut input,
+        &mut out,
+        &mut report,
+    );
+    ExitCode::from(status.code())
+}

@@ -1,0 +1,4 @@
+pub mod Harts
+pub mod Decode
+pub mod Fields
+pub mod Step

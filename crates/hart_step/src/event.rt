@@ -1,0 +1,38 @@
+// What a step shows of itself.
+
+/// Bytes stored in memory or in a device: `size` bytes (1, 2, 4 or 8) at the physical address `at`,
+/// with the little-endian number `value`, zeros above.
+#[derive(Clone, Copy, PartialEq, Eq, Debug)]
+pub struct Put {
+    pub at: u64,
+    pub size: u8,
+    pub value: u64,
+}
+
+/// The privilege of a step: user, supervisor or machine mode, or debug mode.
+#[derive(Clone, Copy, PartialEq, Eq, Debug)]
+pub enum Priv {
+    U,
+    S,
+    M,
+    D,
+}
+
+/// What one step did.
+#[derive(Clone, Copy, PartialEq, Eq, Debug)]
+pub enum Event {
+    /// An instruction was carried out. `mode` and `pc` are those before the step. `insn` is its
+    /// 32-bit word, or its 16-bit word with zeros above. `rd` is the register among x1 to x31 that it
+    /// wrote, with the new value. `st` is what it stored, in memory or in a device. `dv` is what a
+    /// device answered to a load, and `vl` what a volatile register read as.
+    Commit {
+        hart: u8,
+        mode: Priv,
+        pc: u64,
+        insn: u32,
+        rd: Option<(u8, u64)>,
+        st: Option<Put>,
+        dv: Option<u64>,
+        vl: Option<u64>,
+    },
+}

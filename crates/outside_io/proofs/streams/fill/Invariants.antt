@@ -1,0 +1,10 @@
+use Rattle.std.proofs.Common.{◌≤◌, length, take}
+use Rattle.std.specs.Io.KnownBytes.{Consumes}
+use Rattle.outside_io.proofs.streams.fill.Given as goal
+
+-- so much of the buffer was read
+abbrev pub invariant-loop : goal.invariant-loop
+invariant-loop g l = record {
+  within : l.filled ≤ length l.buf;
+  taken : Consumes (g.R.Read.remaining l.fn.reader) (g.R.Read.remaining l.reader) (take l.filled l.buf);
+}

@@ -1,0 +1,29 @@
+-- What an adapter holds: the standard library's object, and its counts of faults.
+use Rattle.std.specs.Prelude.{ℕ}
+use Rattle.outside_io.specs.declared.adapters.StdSource.{StdSource}
+use Rattle.outside_io.specs.declared.adapters.StdSink.{StdSink}
+use Rattle.outside_io.specs.declared.adapters.DirFiles.{DirFiles}
+
+-- the reader that it reads from
+abbrev pub std_source_reader : {R : Type 0} → StdSource R → R
+std_source_reader source = source.reader
+
+-- its count of faults
+abbrev pub std_source_faults : {R : Type 0} → StdSource R → ℕ
+std_source_faults source = source.faults
+
+-- the writer that it writes to
+abbrev pub std_sink_writer : {W : Type 0} → StdSink W → W
+std_sink_writer sink = sink.writer
+
+-- its count of faults
+abbrev pub std_sink_faults : {W : Type 0} → StdSink W → ℕ
+std_sink_faults sink = sink.faults
+
+-- the file access that it asks
+abbrev pub dir_files_runtime : {R : Type 0} → DirFiles R → R
+dir_files_runtime files = files.runtime
+
+-- its count of reading faults
+abbrev pub dir_files_read_faults : {R : Type 0} → DirFiles R → ℕ
+dir_files_read_faults files = files.read_faults

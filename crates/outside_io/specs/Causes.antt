@@ -1,0 +1,29 @@
+-- When a call of the outside may answer a fault: by the object's count of faults, before and after.
+use Rattle.std.specs.Prelude.{◌≡◌, ℕ, ◌+◌, ◌-◌, ◌^◌, ◌≤◌, min, Result, Ok, Err, OnOk, IsErrOf}
+use Rattle.outside_io.specs.declared.OutFault.{OutFault}
+use Rattle.outside_io.specs.declared.OutFault.TheVariants.{Failed, NoMemory}
+
+-- a count after one more: a `u64` that stays at its last value
+abbrev pub raised : ℕ → ℕ
+raised count = min (count + 1) (2 ^ 64 - 1)
+
+-- the count rose, or stands at its last value
+abbrev pub Rose : ℕ → ℕ → Type 0
+Rose before now = min (before + 1) (2 ^ 64 - 1) ≤ now
+
+-- what a call's answer says of its own count of faults
+pub record HasCause {T : Type 0} (before now : ℕ) (result : Result T OutFault) : Type 0 where
+  -- the count never falls
+  pub later : before ≤ now
+  -- `Failed` comes only where it rose, or stands at its end
+  pub failed : IsErrOf result Failed → Rose before now
+  -- an answer leaves it
+  pub kept : OnOk result (now ≡ before)
+  -- and so does want of memory
+  pub starved : IsErrOf result NoMemory → now ≡ before
+
+-- the count is one more after `Failed`, and the same after every other answer
+abbrev pub CountsFailed : {T : Type 0} → ℕ → ℕ → Result T OutFault → Type 0
+CountsFailed before now (Ok x) = now ≡ before
+CountsFailed before now (Err Failed) = now ≡ raised before
+CountsFailed before now (Err NoMemory) = now ≡ before

@@ -1,0 +1,44 @@
+-- What an object in memory holds: its bytes or files, its calls and its counts of faults.
+use Rattle.std.specs.Prelude.{ℕ, List, drop, Option}
+use Rattle.std.specs.Option.{option_map}
+use Rattle.std.specs.BTreeMap.{get_by_text}
+use Rattle.outside_io.specs.declared.calls.Calls.{Calls}
+use Rattle.outside_io.specs.declared.memory.MemSource.{MemSource}
+use Rattle.outside_io.specs.declared.memory.MemSink.{MemSink}
+use Rattle.outside_io.specs.declared.memory.MemFiles.{MemFiles}
+
+-- the bytes still to be read
+abbrev pub source_left : MemSource → List ℕ
+source_left source = drop source.at source.bytes.items
+
+-- its calls
+abbrev pub source_calls : MemSource → Calls
+source_calls source = source.calls
+
+-- its count of faults
+abbrev pub source_faults : MemSource → ℕ
+source_faults source = source.faults
+
+-- the bytes written so far
+abbrev pub sink_bytes : MemSink → List ℕ
+sink_bytes sink = sink.bytes.items
+
+-- its calls
+abbrev pub sink_calls : MemSink → Calls
+sink_calls sink = sink.calls
+
+-- its count of faults
+abbrev pub sink_faults : MemSink → ℕ
+sink_faults sink = sink.faults
+
+-- from a name's bytes to what the file of that name holds
+abbrev pub files_held : MemFiles → List ℕ → Option (List ℕ)
+files_held files name = option_map (λ bytes. bytes.items) (get_by_text files.files name)
+
+-- their calls
+abbrev pub files_calls : MemFiles → Calls
+files_calls files = files.calls
+
+-- their count of reading faults
+abbrev pub files_read_faults : MemFiles → ℕ
+files_read_faults files = files.read_faults

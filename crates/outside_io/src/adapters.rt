@@ -1,0 +1,169 @@
+// The outside of the program over the standard library: streams, and the files of the system.
+ghost use Rattle.std.specs.Prelude.{◌≡◌, ◌≤◌, ℕ, List, length, take, Option, None, IfOk, IfSome, OnOk, OnErr, IsErrOf};
+ghost use Rattle.std.specs.Io.{ReadsAtMost};
+ghost use Rattle.std.specs.Io.KnownBytes.{ReadConsumes, Appends};
+ghost use Rattle.outside_io.specs.declared.OutFault.TheVariants.{Failed, NoMemory};
+ghost use Rattle.outside_io.specs.Causes.{HasCause, CountsFailed};
+ghost use Rattle.outside_io.specs.Content.{Told};
+ghost use Rattle.outside_io.specs.Adapters.{std_source_reader, std_source_faults, std_sink_writer, std_sink_faults, dir_files_runtime, dir_files_read_faults};
+
+use crate::calls::count_fault;
+use crate::streams::{fill, read_once, write_whole};
+use crate::{Files, OutFault, Sink, Source};
+use std::fs::OpenFile;
+use std::io::{ErrorKind, Read, Seek, SeekFrom, Write};
+use std::rt::Files as FileAccess;
+use std::{fs, io};
+
+/// A source over a reader of the standard library, such as standard input.
+#[derive(Drop)]
+pub struct StdSource<R> {
+    reader: R,
+    faults: u64,
+}
+
+/// A sink over a writer of the standard library, such as standard output. It flushes nothing.
+#[derive(Drop)]
+pub struct StdSink<W> {
+    writer: W,
+    faults: u64,
+}
+
+/// The files of the system, by the runtime's file access. A name is a path as given. A path that
+/// cannot be opened is a fault, and so is one with a zero byte or one of a folder.
+#[derive(Drop)]
+pub struct DirFiles<R> {
+    runtime: R,
+    read_faults: u64,
+}
+
+impl<R: Read + Drop> StdSource<R> {
+    /// The source that reads from this reader.
+    pub fn new(reader: R) -> Self
+        ensures reader { std_source_reader result ≡ reader }
+        ensures count { std_source_faults result ≡ 0 }
+    {
+        StdSource { reader, faults: 0 }
+    }
+}
+
+impl<R: Read + Drop> Source for StdSource<R> {
+    ghost left = { λ source. R.remaining (std_source_reader source) };
+
+    ghost faults = { std_source_faults };
+
+    /// Each error of the reader is a fault, but that of a signal, after which it reads again.
+    fn read(&mut self, buf: &mut [u8]) -> Result<usize, OutFault>
+        ensures bound { ReadsAtMost result buf.new }
+        ensures bytes { ReadConsumes (R.remaining (std_source_reader self.old)) (R.remaining (std_source_reader self.new)) result buf.new }
+        ensures cause { HasCause (std_source_faults self.old) (std_source_faults self.new) result }
+        ensures never_starved { IsErrOf result NoMemory → ⊥ }
+        ensures count { CountsFailed (std_source_faults self.old) (std_source_faults self.new) result }
+    {
+        match read_once(&mut self.reader, buf) {
+            Ok(count) => Ok(count),
+            Err(_) => Err(count_fault(&mut self.faults)),
+        }
+    }
+}
+
+impl<W: Write + Drop> StdSink<W> {
+    /// The sink that writes to this writer.
+    pub fn new(writer: W) -> Self
+        ensures writer { std_sink_writer result ≡ writer }
+        ensures count { std_sink_faults result ≡ 0 }
+    {
+        StdSink { writer, faults: 0 }
+    }
+}
+
+impl<W: Write + Drop> Sink for StdSink<W> {
+    ghost written = { λ sink. W.contents (std_sink_writer sink) };
+
+    ghost faults = { std_sink_faults };
+
+    /// Each error of the writer is a fault, but that of a signal, after which it writes on. A write
+    /// that takes nothing of what is left is a fault too.
+    fn write(&mut self, piece: &[u8]) -> Result<(), OutFault>
+        ensures whole { OnOk result (Appends (W.contents (std_sink_writer self.old)) (W.contents (std_sink_writer self.new)) piece.now) }
+        ensures prefix { OnErr result ((n : ℕ) × (n ≤ length piece.now) × Appends (W.contents (std_sink_writer self.old)) (W.contents (std_sink_writer self.new)) (take n piece.now)) }
+        ensures cause { HasCause (std_sink_faults self.old) (std_sink_faults self.new) result }
+        ensures never_starved { IsErrOf result NoMemory → ⊥ }
+        ensures count { CountsFailed (std_sink_faults self.old) (std_sink_faults self.new) result }
+    {
+        match write_whole(&mut self.writer, piece) {
+            Ok(()) => Ok(()),
+            Err(_) => Err(count_fault(&mut self.faults)),
+        }
+    }
+}
+
+// Opens a file to read, and answers its length too. A folder is an error.
+fn open_file<R: FileAccess>(runtime: &R, path: &str) -> io::Result<(R::File, u64)> {
+    let file = fs::open(runtime, path)?;
+    let metadata = file.metadata()?;
+    if metadata.is_dir() {
+        return Err(io::Error::from(ErrorKind::IsADirectory));
+    }
+    Ok((file, metadata.len()))
+}
+
+// The length of a file.
+fn file_size<R: FileAccess>(runtime: &R, path: &str) -> io::Result<u64> {
+    let (_, size) = open_file(runtime, path)?;
+    Ok(size)
+}
+
+// Fills the buffer with the bytes of a file from this place on, or gives all of them.
+fn read_file<R: FileAccess>(runtime: &R, path: &str, at: u64, buf: &mut [u8]) -> io::Result<usize>
+    ensures { ReadsAtMost result buf.new }
+{
+    let (mut file, _) = open_file(runtime, path)?;
+    file.seek(SeekFrom::Start(at))?;
+    fill(&mut file, buf)
+}
+
+impl<R: FileAccess + Drop> DirFiles<R> {
+    /// The files that this file access reaches.
+    pub fn new(runtime: R) -> Self
+        ensures runtime { dir_files_runtime result ≡ runtime }
+        ensures count { dir_files_read_faults result ≡ 0 }
+    {
+        DirFiles {
+            runtime,
+            read_faults: 0,
+        }
+    }
+}
+
+impl<R: FileAccess + Drop> Files for DirFiles<R> {
+    ghost held = { λ _. None };
+
+    ghost read_faults = { dir_files_read_faults };
+
+    /// The length that the system gives for the file. Each error of the system is a fault.
+    fn size(&mut self, name: &str) -> Result<u64, OutFault>
+        ensures cause { HasCause (dir_files_read_faults self.old) (dir_files_read_faults self.new) result }
+        ensures never_starved { IsErrOf result NoMemory → ⊥ }
+        ensures count { CountsFailed (dir_files_read_faults self.old) (dir_files_read_faults self.new) result }
+    {
+        match file_size(&self.runtime, name) {
+            Ok(size) => Ok(size),
+            Err(_) => Err(count_fault(&mut self.read_faults)),
+        }
+    }
+
+    /// Opens the file, goes to the place and reads until the buffer is full or the file ends. Each
+    /// error of the system is a fault, but that of a signal, after which it reads on.
+    fn read_at(&mut self, name: &str, at: u64, buf: &mut [u8]) -> Result<usize, OutFault>
+        ensures bound { ReadsAtMost result buf.new }
+        ensures cause { HasCause (dir_files_read_faults self.old) (dir_files_read_faults self.new) result }
+        ensures never_starved { IsErrOf result NoMemory → ⊥ }
+        ensures count { CountsFailed (dir_files_read_faults self.old) (dir_files_read_faults self.new) result }
+    {
+        match read_file(&self.runtime, name, at, buf) {
+            Ok(count) => Ok(count),
+            Err(_) => Err(count_fault(&mut self.read_faults)),
+        }
+    }
+}

@@ -1,0 +1,95 @@
+//! The outside of the program: where bytes come from, where they go, and files.
+//!
+//! Each trait has a meaning that may be told or not (the bytes that are left, the bytes written,
+//! what each file holds) and a count of faults. A call answers `Failed` only where its count rose,
+//! so code that is generic over a trait cannot make up a fault. The objects in memory tell all;
+//! the adapters over the standard library tell what the standard library tells of them.
+#![tactic(auto)]
+
+ghost use Rattle.std.specs.Prelude.{◌≡◌, ◌≤◌, ℕ, List, length, take, Option, IfOk, IfSome, OnOk, OnErr, IsErrOf};
+ghost use Rattle.std.specs.Io.{ReadsAtMost};
+ghost use Rattle.std.specs.Io.KnownBytes.{ReadConsumes, Appends};
+ghost use Rattle.outside_io.specs.declared.OutFault.TheVariants.{Failed, NoMemory};
+ghost use Rattle.outside_io.specs.Causes.{HasCause};
+ghost use Rattle.outside_io.specs.Content.{Told, ReadsFrom, file_of};
+
+mod adapters;
+mod calls;
+mod memory;
+mod streams;
+
+pub use adapters::{DirFiles, StdSink, StdSource};
+pub use memory::{MemFiles, MemSink, MemSource};
+
+/// Why a call of the outside gave up.
+#[derive(Clone, Copy, Debug, PartialEq, Eq)]
+pub enum OutFault {
+    /// The object outside failed, and has counted it.
+    Failed,
+    /// There was no memory; no count rose.
+    NoMemory,
+}
+
+/// A source of bytes, such as standard input.
+pub trait Source {
+    /// The bytes still to be read, where the source tells them.
+    ghost left: { Self → Option (List ℕ) };
+
+    /// How often the source has failed; it stays at 2^64 - 1.
+    ghost faults: { Self → ℕ };
+
+    /// Puts the next bytes into the front of `buf` and answers how many. Zero for a buffer that is
+    /// not empty means the end of the input. After a fault nothing was taken. The only error is
+    /// `Failed`.
+    fn read(&mut self, buf: &mut [u8]) -> Result<usize, OutFault>
+        ensures bound { ReadsAtMost result buf.new }
+        ensures bytes { ReadConsumes (left self.old) (left self.new) result buf.new }
+        ensures cause { HasCause (faults self.old) (faults self.new) result }
+        ensures never_starved { IsErrOf result NoMemory → ⊥ };
+}
+
+/// A place that bytes are written to, such as standard output.
+pub trait Sink {
+    /// The bytes written so far, where the sink tells them.
+    ghost written: { Self → Option (List ℕ) };
+
+    /// How often the sink has failed; it stays at 2^64 - 1.
+    ghost faults: { Self → ℕ };
+
+    /// Appends the whole piece. After an error a prefix of the piece was appended. The errors are
+    /// `Failed`, and `NoMemory` of a sink that keeps its bytes in memory.
+    fn write(&mut self, piece: &[u8]) -> Result<(), OutFault>
+        ensures whole { OnOk result (Appends (written self.old) (written self.new) piece.now) }
+        ensures prefix { OnErr result ((n : ℕ) × (n ≤ length piece.now) × Appends (written self.old) (written self.new) (take n piece.now)) }
+        ensures cause { HasCause (faults self.old) (faults self.new) result };
+}
+
+/// Files by name, such as those of the file system. Reading changes no file.
+pub trait Files {
+    /// From a name's bytes to what the file of that name holds (`None` where there is none), where
+    /// the object tells it.
+    ghost held: { Self → Option (List ℕ → Option (List ℕ)) };
+
+    /// How often a `size` or a `read_at` has failed; it stays at 2^64 - 1.
+    ghost read_faults: { Self → ℕ };
+
+    /// The length of the named file in bytes. The only error is `Failed`.
+    fn size(&mut self, name: &str) -> Result<u64, OutFault>
+        ensures bytes { IfOk result (λ n. IfSome (held self.old) (λ files. n ≡ length (file_of files name.now))) }
+        ensures content { Told (held self.old) (held self.new) (λ old new. new ≡ old) }
+        ensures cause { HasCause (read_faults self.old) (read_faults self.new) result }
+        ensures never_starved { IsErrOf result NoMemory → ⊥ };
+
+    /// Puts bytes of the named file, from place `at` on, into the front of `buf` and answers how
+    /// many. Zero for a buffer that is not empty means that the file ends at or before `at`. The
+    /// only error is `Failed`.
+    fn read_at(&mut self, name: &str, at: u64, buf: &mut [u8]) -> Result<usize, OutFault>
+        ensures bound { ReadsAtMost result buf.new }
+        ensures bytes { IfOk result (λ n. IfSome (held self.old) (λ files. ReadsFrom (file_of files name.now) at n buf.new)) }
+        ensures content { Told (held self.old) (held self.new) (λ old new. new ≡ old) }
+        ensures cause { HasCause (read_faults self.old) (read_faults self.new) result }
+        ensures never_starved { IsErrOf result NoMemory → ⊥ };
+}
+
+#[cfg(test)]
+mod tests;

@@ -1,0 +1,298 @@
+// A source, a sink and files in memory, which fail at the calls that are listed.
+ghost use Rattle.std.specs.Prelude.{◌≡◌, ◌≢◌, ◌≤◌, ◌↔◌, ◌⊎◌, ℕ, List, [], ◌∷◌, ◌++◌, min, length, take, drop, vec_len, Contains, Option, None, Some, IfOk, IfSome, IsSome, IsNone, OnOk, OnErr, IsErrOf};
+ghost use Rattle.std.specs.Option.{option_copied};
+ghost use Rattle.std.specs.Io.{ReadsAtMost};
+ghost use Rattle.std.specs.Io.KnownBytes.{ReadConsumes, Appends};
+ghost use Rattle.outside_io.specs.declared.OutFault.TheVariants.{Failed, NoMemory};
+
+use crate::calls::{Calls, count_fault};
+use crate::{Files, OutFault, Sink, Source};
+use std::alloc::Global;
+use std::collections::BTreeMap;
+
+/// A source of bytes in memory. Its calls are numbered from 1, and those that are listed fail.
+#[derive(Drop)]
+pub struct MemSource {
+    bytes: Vec<u8>,
+    at: usize,
+    calls: Calls,
+    faults: u64,
+    ghost within: { at ≤ vec_len bytes },
+}
+
+/// A sink that keeps its bytes in memory. Its calls are numbered from 1, and those that are listed
+/// fail.
+#[derive(Drop)]
+pub struct MemSink {
+    bytes: Vec<u8>,
+    calls: Calls,
+    faults: u64,
+}
+
+/// Files in memory. Their calls are numbered from 1, and those that are listed fail.
+#[derive(Drop)]
+pub struct MemFiles {
+    alloc: Global,
+    files: BTreeMap<String, Vec<u8>>,
+    calls: Calls,
+    read_faults: u64,
+}
+
+/// Copies as many bytes from place `at` on as there is room for to the front of `buf`, and answers
+/// how many.
+fn copy_from(buf: &mut [u8], bytes: &[u8], at: usize) -> usize
+    ensures count { result ≡ min (length buf.new) (length (drop at bytes.now)) }
+    ensures front { take result buf.new ≡ take result (drop at bytes.now) }
+{
+    let start = at.min(bytes.len());
+    let rest = &bytes[start..];
+    let count = buf.len().min(rest.len());
+    buf[..count].copy_from_slice(&rest[..count]);
+    count
+}
+
+impl MemSource {
+    ghost use Rattle.outside_io.specs.Calls.{AreFresh, Lists};
+    ghost use Rattle.outside_io.specs.Memory.{source_left, source_calls, source_faults};
+
+    /// A source with no bytes, and no call that is to fail. It takes no memory.
+    pub fn new(alloc: Global) -> Self
+        ensures empty { source_left result ≡ [] }
+        ensures calls { AreFresh (source_calls result) }
+        ensures count { source_faults result ≡ 0 }
+    {
+        MemSource {
+            bytes: Vec::new(alloc),
+            at: 0,
+            calls: Calls::new(alloc),
+            faults: 0,
+        }
+    }
+
+    /// Appends bytes to those still to be read. After `NoMemory` nothing has changed.
+    pub fn give(&mut self, bytes: &[u8]) -> Result<(), OutFault>
+        ensures ok { OnOk result (source_left self.new ≡ source_left self.old ++ bytes.now) }
+        ensures err { OnErr result (source_left self.new ≡ source_left self.old) }
+        ensures never_failed { IsErrOf result Failed → ⊥ }
+        ensures calls { source_calls self.new ≡ source_calls self.old }
+        ensures count { source_faults self.new ≡ source_faults self.old }
+    {
+        match self.bytes.extend_from_slice(bytes) {
+            Ok(()) => Ok(()),
+            Err(_) => Err(OutFault::NoMemory),
+        }
+    }
+
+    /// Lists the number of one more call that is to fail. After `NoMemory` nothing has changed.
+    pub fn fail_at(&mut self, call: u64) -> Result<(), OutFault>
+        ensures ok { OnOk result (Lists (source_calls self.old) (source_calls self.new) (call ∷ [])) }
+        ensures err { OnErr result (Lists (source_calls self.old) (source_calls self.new) []) }
+        ensures never_failed { IsErrOf result Failed → ⊥ }
+        ensures bytes { source_left self.new ≡ source_left self.old }
+        ensures count { source_faults self.new ≡ source_faults self.old }
+    {
+        self.calls.fail_at(call)
+    }
+}
+
+impl Source for MemSource {
+    ghost use Rattle.outside_io.specs.Causes.{HasCause, CountsFailed};
+    ghost use Rattle.outside_io.specs.Calls.{IsToFail, OneMore};
+    ghost use Rattle.outside_io.specs.Memory.{source_left, source_calls, source_faults};
+
+    ghost left = { λ source. Some (source_left source) };
+
+    ghost faults = { source_faults };
+
+    /// Fails exactly where the call's number is listed; else it fills `buf` or gives all that is
+    /// left.
+    fn read(&mut self, buf: &mut [u8]) -> Result<usize, OutFault>
+        ensures bound { ReadsAtMost result buf.new }
+        ensures bytes { ReadConsumes (Some (source_left self.old)) (Some (source_left self.new)) result buf.new }
+        ensures cause { HasCause (source_faults self.old) (source_faults self.new) result }
+        ensures never_starved { IsErrOf result NoMemory → ⊥ }
+        ensures fails { IsErrOf result Failed ↔ IsToFail (source_calls self.old) }
+        ensures fills { IfOk result (λ n. n ≡ min (length buf.new) (length (source_left self.old))) }
+        ensures calls { OneMore (source_calls self.old) (source_calls self.new) }
+        ensures count { CountsFailed (source_faults self.old) (source_faults self.new) result }
+    {
+        self.calls.next(&mut self.faults)?;
+        let count = copy_from(buf, &self.bytes, self.at);
+        self.at += count;
+        Ok(count)
+    }
+}
+
+impl MemSink {
+    ghost use Rattle.outside_io.specs.Calls.{AreFresh, Lists};
+    ghost use Rattle.outside_io.specs.Memory.{sink_bytes, sink_calls, sink_faults};
+
+    /// A sink with no bytes, and no call that is to fail. It takes no memory.
+    pub fn new(alloc: Global) -> Self
+        ensures empty { sink_bytes result ≡ [] }
+        ensures calls { AreFresh (sink_calls result) }
+        ensures count { sink_faults result ≡ 0 }
+    {
+        MemSink {
+            bytes: Vec::new(alloc),
+            calls: Calls::new(alloc),
+            faults: 0,
+        }
+    }
+
+    /// The bytes written so far.
+    pub fn bytes(&self) -> &[u8]
+        ensures { result.now ≡ sink_bytes self.now }
+    {
+        &self.bytes
+    }
+
+    /// Lists the number of one more call that is to fail. After `NoMemory` nothing has changed.
+    pub fn fail_at(&mut self, call: u64) -> Result<(), OutFault>
+        ensures ok { OnOk result (Lists (sink_calls self.old) (sink_calls self.new) (call ∷ [])) }
+        ensures err { OnErr result (Lists (sink_calls self.old) (sink_calls self.new) []) }
+        ensures never_failed { IsErrOf result Failed → ⊥ }
+        ensures bytes { sink_bytes self.new ≡ sink_bytes self.old }
+        ensures count { sink_faults self.new ≡ sink_faults self.old }
+    {
+        self.calls.fail_at(call)
+    }
+}
+
+impl Sink for MemSink {
+    ghost use Rattle.outside_io.specs.Causes.{HasCause, CountsFailed};
+    ghost use Rattle.outside_io.specs.Calls.{IsToFail, OneMore};
+    ghost use Rattle.outside_io.specs.Memory.{sink_bytes, sink_calls, sink_faults};
+
+    ghost written = { λ sink. Some (sink_bytes sink) };
+
+    ghost faults = { sink_faults };
+
+    /// Fails exactly where the call's number is listed. After an error, also where there is no
+    /// memory for the piece, nothing was appended.
+    fn write(&mut self, piece: &[u8]) -> Result<(), OutFault>
+        ensures whole { OnOk result (Appends (Some (sink_bytes self.old)) (Some (sink_bytes self.new)) piece.now) }
+        ensures prefix { OnErr result ((n : ℕ) × (n ≤ length piece.now) × Appends (Some (sink_bytes self.old)) (Some (sink_bytes self.new)) (take n piece.now)) }
+        ensures cause { HasCause (sink_faults self.old) (sink_faults self.new) result }
+        ensures fails { IsErrOf result Failed ↔ IsToFail (sink_calls self.old) }
+        ensures nothing { OnErr result (sink_bytes self.new ≡ sink_bytes self.old) }
+        ensures calls { OneMore (sink_calls self.old) (sink_calls self.new) }
+        ensures count { CountsFailed (sink_faults self.old) (sink_faults self.new) result }
+    {
+        self.calls.next(&mut self.faults)?;
+        match self.bytes.extend_from_slice(piece) {
+            Ok(()) => Ok(()),
+            Err(_) => Err(OutFault::NoMemory),
+        }
+    }
+}
+
+impl MemFiles {
+    ghost use Rattle.outside_io.specs.Calls.{AreFresh, Lists};
+    ghost use Rattle.outside_io.specs.Memory.{files_held, files_calls, files_read_faults};
+
+    /// No files, and no call that is to fail. It takes no memory.
+    pub fn new(alloc: Global) -> Self
+        ensures empty { (name : List ℕ) → files_held result name ≡ None }
+        ensures calls { AreFresh (files_calls result) }
+        ensures count { files_read_faults result ≡ 0 }
+    {
+        MemFiles {
+            alloc,
+            files: BTreeMap::new(alloc),
+            calls: Calls::new(alloc),
+            read_faults: 0,
+        }
+    }
+
+    /// The bytes of the named file, and `None` exactly where the name is not held.
+    pub fn bytes(&self, name: &str) -> Option<&[u8]>
+        ensures { option_copied result ≡ files_held self.now name.now }
+    {
+        match self.files.get(name) {
+            Some(bytes) => Some(bytes.as_slice()),
+            None => None,
+        }
+    }
+
+    /// Holds the bytes under this name, in the place of what was there. After `NoMemory` nothing
+    /// has changed.
+    pub fn put(&mut self, name: &str, bytes: &[u8]) -> Result<(), OutFault>
+        ensures named { OnOk result (files_held self.new name.now ≡ Some bytes.now) }
+        ensures others { (other : List ℕ) → other ≢ name.now → files_held self.new other ≡ files_held self.old other }
+        ensures err { OnErr result ((other : List ℕ) → files_held self.new other ≡ files_held self.old other) }
+        ensures never_failed { IsErrOf result Failed → ⊥ }
+        ensures calls { files_calls self.new ≡ files_calls self.old }
+        ensures count { files_read_faults self.new ≡ files_read_faults self.old }
+    {
+        let Ok(key) = String::from_str(self.alloc, name) else {
+            return Err(OutFault::NoMemory);
+        };
+        let Ok(content) = bytes.to_vec(self.alloc) else {
+            return Err(OutFault::NoMemory);
+        };
+        match self.files.insert(key, content) {
+            Ok(_) => Ok(()),
+            Err(_) => Err(OutFault::NoMemory),
+        }
+    }
+
+    /// Lists the number of one more call that is to fail. After `NoMemory` nothing has changed.
+    pub fn fail_at(&mut self, call: u64) -> Result<(), OutFault>
+        ensures ok { OnOk result (Lists (files_calls self.old) (files_calls self.new) (call ∷ [])) }
+        ensures err { OnErr result (Lists (files_calls self.old) (files_calls self.new) []) }
+        ensures never_failed { IsErrOf result Failed → ⊥ }
+        ensures files { (name : List ℕ) → files_held self.new name ≡ files_held self.old name }
+        ensures count { files_read_faults self.new ≡ files_read_faults self.old }
+    {
+        self.calls.fail_at(call)
+    }
+}
+
+impl Files for MemFiles {
+    ghost use Rattle.outside_io.specs.Causes.{HasCause, CountsFailed};
+    ghost use Rattle.outside_io.specs.Content.{ReadsFrom, Told, file_of};
+    ghost use Rattle.outside_io.specs.Calls.{IsToFail, OneMore};
+    ghost use Rattle.outside_io.specs.Memory.{files_held, files_calls, files_read_faults};
+
+    ghost held = { λ files. Some (files_held files) };
+
+    ghost read_faults = { files_read_faults };
+
+    /// Fails exactly where the call's number is listed, or the name is not held.
+    fn size(&mut self, name: &str) -> Result<u64, OutFault>
+        ensures bytes { IfOk result (λ n. IfSome (Some (files_held self.old)) (λ files. n ≡ length (file_of files name.now))) }
+        ensures content { Told (Some (files_held self.old)) (Some (files_held self.new)) (λ old new. new ≡ old) }
+        ensures cause { HasCause (files_read_faults self.old) (files_read_faults self.new) result }
+        ensures never_starved { IsErrOf result NoMemory → ⊥ }
+        ensures fails { IsErrOf result Failed ↔ (IsToFail (files_calls self.old) ⊎ IsNone (files_held self.old name.now)) }
+        ensures calls { OneMore (files_calls self.old) (files_calls self.new) }
+        ensures count { CountsFailed (files_read_faults self.old) (files_read_faults self.new) result }
+    {
+        self.calls.next(&mut self.read_faults)?;
+        match self.bytes(name) {
+            Some(bytes) => Ok(bytes.len() as u64),
+            None => Err(count_fault(&mut self.read_faults)),
+        }
+    }
+
+    /// Fails exactly where the call's number is listed, or the name is not held; else it fills
+    /// `buf` or gives all of the file from `at` on.
+    fn read_at(&mut self, name: &str, at: u64, buf: &mut [u8]) -> Result<usize, OutFault>
+        ensures bound { ReadsAtMost result buf.new }
+        ensures bytes { IfOk result (λ n. IfSome (Some (files_held self.old)) (λ files. ReadsFrom (file_of files name.now) at n buf.new)) }
+        ensures content { Told (Some (files_held self.old)) (Some (files_held self.new)) (λ old new. new ≡ old) }
+        ensures cause { HasCause (files_read_faults self.old) (files_read_faults self.new) result }
+        ensures never_starved { IsErrOf result NoMemory → ⊥ }
+        ensures fails { IsErrOf result Failed ↔ (IsToFail (files_calls self.old) ⊎ IsNone (files_held self.old name.now)) }
+        ensures fills { IfOk result (λ n. n ≡ min (length buf.new) (length (drop at (file_of (files_held self.old) name.now)))) }
+        ensures calls { OneMore (files_calls self.old) (files_calls self.new) }
+        ensures count { CountsFailed (files_read_faults self.old) (files_read_faults self.new) result }
+    {
+        self.calls.next(&mut self.read_faults)?;
+        let Some(bytes) = self.bytes(name) else {
+            return Err(count_fault(&mut self.read_faults));
+        };
+        Ok(copy_from(buf, bytes, at as usize))
+    }
+}

@@ -1,0 +1,219 @@
+// Each object outside, called through its trait.
+use crate::{
+    DirFiles, Files, MemFiles, MemSink, MemSource, OutFault, Sink, Source, StdSink, StdSource,
+};
+use std::io::{ErrorKind, Read, Write};
+use std::process::Abort;
+use std::test::Fail;
+use std::{fs, io};
+
+// A reader of so many bytes, two at a time, after one signal. Then it fails.
+#[derive(Drop)]
+struct SlowReader {
+    left: usize,
+    interrupted: bool,
+}
+
+impl Read for SlowReader {
+    fn read(&mut self, buf: &mut [u8]) -> io::Result<usize> {
+        if !self.interrupted {
+            self.interrupted = true;
+            return Err(io::Error::from(ErrorKind::Interrupted));
+        }
+        if self.left == 0 {
+            return Err(io::Error::from(ErrorKind::BrokenPipe));
+        }
+        let count = buf.len().min(self.left).min(2);
+        buf[..count].fill(b'x');
+        self.left -= count;
+        Ok(count)
+    }
+}
+
+// A writer with room for so many bytes, which takes two at a time, after one signal. Then it takes
+// nothing.
+#[derive(Drop)]
+struct SlowWriter<'a> {
+    taken: &'a mut Vec<u8>,
+    room: usize,
+    interrupted: bool,
+}
+
+impl Write for SlowWriter<'_> {
+    fn write(&mut self, buf: &[u8]) -> io::Result<usize> {
+        if !self.interrupted {
+            self.interrupted = true;
+            return Err(io::Error::from(ErrorKind::Interrupted));
+        }
+        let count = buf.len().min(self.room).min(2);
+        if self.taken.extend_from_slice(&buf[..count]).is_err() {
+            return Err(io::Error::from(ErrorKind::OutOfMemory));
+        }
+        self.room -= count;
+        Ok(count)
+    }
+
+    fn flush(&mut self) -> io::Result<()> {
+        Ok(())
+    }
+}
+
+// One read into a buffer of eight bytes or fewer gives these bytes, or fails.
+fn expect_read<S: Source>(rt: &impl Abort, source: &mut S, room: usize, want: Option<&[u8]>) {
+    let mut buf = [b'-'; 8];
+    let room = room.min(8);
+    match (source.read(&mut buf[..room]), want) {
+        (Ok(count), Some(want)) => assert_eq!(rt; &buf[..count], want),
+        (Err(fault), None) => assert_eq!(rt; fault, OutFault::Failed),
+        _ => panic!(rt; "a fault in the place of bytes, or bytes in the place of a fault"),
+    }
+}
+
+fn expect_write<K: Sink>(rt: &impl Abort, sink: &mut K, piece: &[u8], want: Result<(), OutFault>) {
+    assert_eq!(rt; sink.write(piece), want);
+}
+
+fn expect_size<F: Files>(rt: &impl Abort, files: &mut F, name: &str, want: Result<u64, OutFault>) {
+    assert_eq!(rt; files.size(name), want, "{name}");
+}
+
+// One read of a file into a buffer of eight bytes or fewer gives these bytes, or fails.
+fn expect_read_at<F: Files>(
+    rt: &impl Abort,
+    files: &mut F,
+    name: &str,
+    at: u64,
+    room: usize,
+    want: Option<&[u8]>,
+) {
+    let mut buf = [b'-'; 8];
+    let room = room.min(8);
+    match (files.read_at(name, at, &mut buf[..room]), want) {
+        (Ok(count), Some(want)) => assert_eq!(rt; &buf[..count], want, "{name} at {at}"),
+        (Err(fault), None) => assert_eq!(rt; fault, OutFault::Failed, "{name} at {at}"),
+        _ => panic!(rt; "a fault in the place of bytes, or bytes in the place of a fault"),
+    }
+}
+
+#[test]
+fn a_source_in_memory_gives_its_bytes_and_fails_at_the_listed_calls(rt: HostRuntime) {
+    let mut source = MemSource::new(rt.alloc());
+    assert_eq!(rt; source.give(b"hello, "), Ok(()));
+    assert_eq!(rt; source.give(b"world"), Ok(()));
+    assert_eq!(rt; source.fail_at(2), Ok(()));
+    assert_eq!(rt; source.fail_at(5), Ok(()));
+    let rows: [(usize, Option<&[u8]>); 7] = [
+        (5, Some(b"hello")),
+        (5, None),
+        (0, Some(b"")),
+        (8, Some(b", world")),
+        (8, None),
+        (8, Some(b"")),
+        (0, Some(b"")),
+    ];
+    for (room, want) in rows {
+        expect_read(&rt, &mut source, room, want);
+    }
+}
+
+#[test]
+fn a_sink_in_memory_keeps_its_bytes_and_fails_at_the_listed_calls(rt: HostRuntime) {
+    let mut sink = MemSink::new(rt.alloc());
+    assert_eq!(rt; sink.bytes(), b"".as_slice());
+    assert_eq!(rt; sink.fail_at(2), Ok(()));
+    expect_write(&rt, &mut sink, b"ab", Ok(()));
+    expect_write(&rt, &mut sink, b"cd", Err(OutFault::Failed));
+    expect_write(&rt, &mut sink, b"", Ok(()));
+    expect_write(&rt, &mut sink, b"ef", Ok(()));
+    assert_eq!(rt; sink.bytes(), b"abef".as_slice());
+}
+
+#[test]
+fn files_in_memory_are_read_by_name(rt: HostRuntime) {
+    let mut files = MemFiles::new(rt.alloc());
+    assert_eq!(rt; files.put("a", b"old"), Ok(()));
+    assert_eq!(rt; files.put("a", b"0123456789"), Ok(()));
+    assert_eq!(rt; files.put("empty", b""), Ok(()));
+    assert_eq!(rt; files.put("a/b", b"xyz"), Ok(()));
+    assert_eq!(rt; files.fail_at(3), Ok(()));
+    expect_size(&rt, &mut files, "a", Ok(10));
+    expect_size(&rt, &mut files, "b", Err(OutFault::Failed));
+    expect_size(&rt, &mut files, "a", Err(OutFault::Failed));
+    expect_size(&rt, &mut files, "empty", Ok(0));
+    let rows: [(&str, u64, usize, Option<&[u8]>); 8] = [
+        ("a", 0, 4, Some(b"0123")),
+        ("a", 7, 8, Some(b"789")),
+        ("a", 9, 0, Some(b"")),
+        ("a", 10, 8, Some(b"")),
+        ("a", 18_446_744_073_709_551_615, 8, Some(b"")),
+        ("a/b", 1, 1, Some(b"y")),
+        ("empty", 0, 8, Some(b"")),
+        ("", 0, 8, None),
+    ];
+    for (name, at, room, want) in rows {
+        expect_read_at(&rt, &mut files, name, at, room, want);
+    }
+    assert!(rt; files.bytes("a") == Some(b"0123456789".as_slice()));
+    assert!(rt; files.bytes("b").is_none());
+}
+
+#[test]
+fn a_reader_is_a_source_and_its_errors_are_faults(rt: HostRuntime) {
+    let mut source = StdSource::new(SlowReader {
+        left: 3,
+        interrupted: false,
+    });
+    expect_read(&rt, &mut source, 8, Some(b"xx"));
+    expect_read(&rt, &mut source, 8, Some(b"x"));
+    expect_read(&rt, &mut source, 8, None);
+    let mut input = StdSource::new(rt.stdin());
+    expect_read(&rt, &mut input, 0, Some(b""));
+}
+
+#[test]
+fn a_writer_is_a_sink_and_its_errors_are_faults(rt: HostRuntime) {
+    let mut taken = Vec::new(rt.alloc());
+    let mut sink = StdSink::new(SlowWriter {
+        taken: &mut taken,
+        room: 5,
+        interrupted: false,
+    });
+    expect_write(&rt, &mut sink, b"", Ok(()));
+    expect_write(&rt, &mut sink, b"abc", Ok(()));
+    expect_write(&rt, &mut sink, b"def", Err(OutFault::Failed));
+    expect_write(&rt, &mut sink, b"", Ok(()));
+    assert_eq!(rt; taken.as_slice(), b"abcde".as_slice());
+    let mut output = StdSink::new(rt.stdout());
+    expect_write(&rt, &mut output, b"", Ok(()));
+    let mut errors = StdSink::new(rt.stderr());
+    expect_write(&rt, &mut errors, b"", Ok(()));
+}
+
+#[test]
+fn the_files_of_the_system_are_read_by_path(rt: HostRuntime) -> Result<(), Fail> {
+    fs::create_dir(&rt, "folder")?;
+    fs::write(&rt, "folder/file", "0123456789")?;
+    fs::write(&rt, "empty", "")?;
+    let mut files = DirFiles::new(&rt);
+    expect_size(&rt, &mut files, "folder/file", Ok(10));
+    expect_size(&rt, &mut files, "empty", Ok(0));
+    for name in ["folder", "absent", "folder/file\0", ""] {
+        expect_size(&rt, &mut files, name, Err(OutFault::Failed));
+        expect_read_at(&rt, &mut files, name, 0, 8, None);
+    }
+    let rows: [(u64, usize, Option<&[u8]>); 6] = [
+        (0, 4, Some(b"0123")),
+        (7, 8, Some(b"789")),
+        (2, 8, Some(b"23456789")),
+        (9, 0, Some(b"")),
+        (10, 8, Some(b"")),
+        (4_294_967_296, 8, Some(b"")),
+    ];
+    for (at, room, want) in rows {
+        expect_read_at(&rt, &mut files, "folder/file", at, room, want);
+    }
+    fs::remove_file(&rt, "folder/file")?;
+    fs::remove_dir(&rt, "folder")?;
+    fs::remove_file(&rt, "empty")?;
+    Ok(())
+}

@@ -1,0 +1,109 @@
+-- Decoding the word of an instruction gives the instruction back: a line for each row of the table.
+use Rattle.std.proofs.Common.{refl}
+use Rattle.rv_decode.specs.Encode.{EncodedIsDecoded, encoded}
+use Rattle.rv_decode.specs.Words.{rows, row_plain}
+use Rattle.rv_decode.specs.declared.Insn.{Insn}
+use Rattle.rv_decode.proofs.Formats.{encoded_b, encoded_csr, encoded_csr_immediate, encoded_fence, encoded_i, encoded_j, encoded_r, encoded_atomic, encoded_reserve, encoded_s, encoded_shift, encoded_u, encoded_word_shift}
+use Rattle.rv_decode.proofs.TableLaws.{decoded_as}
+
+pub encoded_is_decoded_lem : EncodedIsDecoded
+unfolding encoded rows
+encoded_is_decoded_lem (Insn.Lui rd imm) h = encoded_u 0x00000037 Insn.Lui refl refl rd imm h
+encoded_is_decoded_lem (Insn.Auipc rd imm) h = encoded_u 0x00000017 Insn.Auipc refl refl rd imm h
+encoded_is_decoded_lem (Insn.Jal rd imm) h = encoded_j 0x0000006f Insn.Jal refl refl rd imm h
+encoded_is_decoded_lem (Insn.Jalr rd rs1 imm) h = encoded_i 0x00000067 Insn.Jalr (refl, refl) refl rd rs1 imm h
+encoded_is_decoded_lem (Insn.Beq rs1 rs2 imm) h = encoded_b 0x00000063 Insn.Beq (refl, refl) refl rs1 rs2 imm h
+encoded_is_decoded_lem (Insn.Bne rs1 rs2 imm) h = encoded_b 0x00001063 Insn.Bne (refl, refl) refl rs1 rs2 imm h
+encoded_is_decoded_lem (Insn.Blt rs1 rs2 imm) h = encoded_b 0x00004063 Insn.Blt (refl, refl) refl rs1 rs2 imm h
+encoded_is_decoded_lem (Insn.Bge rs1 rs2 imm) h = encoded_b 0x00005063 Insn.Bge (refl, refl) refl rs1 rs2 imm h
+encoded_is_decoded_lem (Insn.Bltu rs1 rs2 imm) h = encoded_b 0x00006063 Insn.Bltu (refl, refl) refl rs1 rs2 imm h
+encoded_is_decoded_lem (Insn.Bgeu rs1 rs2 imm) h = encoded_b 0x00007063 Insn.Bgeu (refl, refl) refl rs1 rs2 imm h
+encoded_is_decoded_lem (Insn.Lb rd rs1 imm) h = encoded_i 0x00000003 Insn.Lb (refl, refl) refl rd rs1 imm h
+encoded_is_decoded_lem (Insn.Lh rd rs1 imm) h = encoded_i 0x00001003 Insn.Lh (refl, refl) refl rd rs1 imm h
+encoded_is_decoded_lem (Insn.Lw rd rs1 imm) h = encoded_i 0x00002003 Insn.Lw (refl, refl) refl rd rs1 imm h
+encoded_is_decoded_lem (Insn.Ld rd rs1 imm) h = encoded_i 0x00003003 Insn.Ld (refl, refl) refl rd rs1 imm h
+encoded_is_decoded_lem (Insn.Lbu rd rs1 imm) h = encoded_i 0x00004003 Insn.Lbu (refl, refl) refl rd rs1 imm h
+encoded_is_decoded_lem (Insn.Lhu rd rs1 imm) h = encoded_i 0x00005003 Insn.Lhu (refl, refl) refl rd rs1 imm h
+encoded_is_decoded_lem (Insn.Lwu rd rs1 imm) h = encoded_i 0x00006003 Insn.Lwu (refl, refl) refl rd rs1 imm h
+encoded_is_decoded_lem (Insn.Sb rs1 rs2 imm) h = encoded_s 0x00000023 Insn.Sb (refl, refl) refl rs1 rs2 imm h
+encoded_is_decoded_lem (Insn.Sh rs1 rs2 imm) h = encoded_s 0x00001023 Insn.Sh (refl, refl) refl rs1 rs2 imm h
+encoded_is_decoded_lem (Insn.Sw rs1 rs2 imm) h = encoded_s 0x00002023 Insn.Sw (refl, refl) refl rs1 rs2 imm h
+encoded_is_decoded_lem (Insn.Sd rs1 rs2 imm) h = encoded_s 0x00003023 Insn.Sd (refl, refl) refl rs1 rs2 imm h
+encoded_is_decoded_lem (Insn.Addi rd rs1 imm) h = encoded_i 0x00000013 Insn.Addi (refl, refl) refl rd rs1 imm h
+encoded_is_decoded_lem (Insn.Slti rd rs1 imm) h = encoded_i 0x00002013 Insn.Slti (refl, refl) refl rd rs1 imm h
+encoded_is_decoded_lem (Insn.Sltiu rd rs1 imm) h = encoded_i 0x00003013 Insn.Sltiu (refl, refl) refl rd rs1 imm h
+encoded_is_decoded_lem (Insn.Xori rd rs1 imm) h = encoded_i 0x00004013 Insn.Xori (refl, refl) refl rd rs1 imm h
+encoded_is_decoded_lem (Insn.Ori rd rs1 imm) h = encoded_i 0x00006013 Insn.Ori (refl, refl) refl rd rs1 imm h
+encoded_is_decoded_lem (Insn.Andi rd rs1 imm) h = encoded_i 0x00007013 Insn.Andi (refl, refl) refl rd rs1 imm h
+encoded_is_decoded_lem (Insn.Addiw rd rs1 imm) h = encoded_i 0x0000001b Insn.Addiw (refl, refl) refl rd rs1 imm h
+encoded_is_decoded_lem (Insn.Slli rd rs1 shamt) h = encoded_shift 0x00001013 Insn.Slli (refl, refl) refl rd rs1 shamt h
+encoded_is_decoded_lem (Insn.Srli rd rs1 shamt) h = encoded_shift 0x00005013 Insn.Srli (refl, refl) refl rd rs1 shamt h
+encoded_is_decoded_lem (Insn.Srai rd rs1 shamt) h = encoded_shift 0x40005013 Insn.Srai (refl, refl) refl rd rs1 shamt h
+encoded_is_decoded_lem (Insn.Slliw rd rs1 shamt) h = encoded_word_shift 0x0000101b Insn.Slliw (refl, refl) refl rd rs1 shamt h
+encoded_is_decoded_lem (Insn.Srliw rd rs1 shamt) h = encoded_word_shift 0x0000501b Insn.Srliw (refl, refl) refl rd rs1 shamt h
+encoded_is_decoded_lem (Insn.Sraiw rd rs1 shamt) h = encoded_word_shift 0x4000501b Insn.Sraiw (refl, refl) refl rd rs1 shamt h
+encoded_is_decoded_lem (Insn.Add rd rs1 rs2) h = encoded_r 0x00000033 Insn.Add (refl, refl) refl rd rs1 rs2 h
+encoded_is_decoded_lem (Insn.Sub rd rs1 rs2) h = encoded_r 0x40000033 Insn.Sub (refl, refl) refl rd rs1 rs2 h
+encoded_is_decoded_lem (Insn.Sll rd rs1 rs2) h = encoded_r 0x00001033 Insn.Sll (refl, refl) refl rd rs1 rs2 h
+encoded_is_decoded_lem (Insn.Slt rd rs1 rs2) h = encoded_r 0x00002033 Insn.Slt (refl, refl) refl rd rs1 rs2 h
+encoded_is_decoded_lem (Insn.Sltu rd rs1 rs2) h = encoded_r 0x00003033 Insn.Sltu (refl, refl) refl rd rs1 rs2 h
+encoded_is_decoded_lem (Insn.Xor rd rs1 rs2) h = encoded_r 0x00004033 Insn.Xor (refl, refl) refl rd rs1 rs2 h
+encoded_is_decoded_lem (Insn.Srl rd rs1 rs2) h = encoded_r 0x00005033 Insn.Srl (refl, refl) refl rd rs1 rs2 h
+encoded_is_decoded_lem (Insn.Sra rd rs1 rs2) h = encoded_r 0x40005033 Insn.Sra (refl, refl) refl rd rs1 rs2 h
+encoded_is_decoded_lem (Insn.Or rd rs1 rs2) h = encoded_r 0x00006033 Insn.Or (refl, refl) refl rd rs1 rs2 h
+encoded_is_decoded_lem (Insn.And rd rs1 rs2) h = encoded_r 0x00007033 Insn.And (refl, refl) refl rd rs1 rs2 h
+encoded_is_decoded_lem (Insn.Addw rd rs1 rs2) h = encoded_r 0x0000003b Insn.Addw (refl, refl) refl rd rs1 rs2 h
+encoded_is_decoded_lem (Insn.Subw rd rs1 rs2) h = encoded_r 0x4000003b Insn.Subw (refl, refl) refl rd rs1 rs2 h
+encoded_is_decoded_lem (Insn.Sllw rd rs1 rs2) h = encoded_r 0x0000103b Insn.Sllw (refl, refl) refl rd rs1 rs2 h
+encoded_is_decoded_lem (Insn.Srlw rd rs1 rs2) h = encoded_r 0x0000503b Insn.Srlw (refl, refl) refl rd rs1 rs2 h
+encoded_is_decoded_lem (Insn.Sraw rd rs1 rs2) h = encoded_r 0x4000503b Insn.Sraw (refl, refl) refl rd rs1 rs2 h
+encoded_is_decoded_lem (Insn.Mul rd rs1 rs2) h = encoded_r 0x02000033 Insn.Mul (refl, refl) refl rd rs1 rs2 h
+encoded_is_decoded_lem (Insn.Mulh rd rs1 rs2) h = encoded_r 0x02001033 Insn.Mulh (refl, refl) refl rd rs1 rs2 h
+encoded_is_decoded_lem (Insn.Mulhsu rd rs1 rs2) h = encoded_r 0x02002033 Insn.Mulhsu (refl, refl) refl rd rs1 rs2 h
+encoded_is_decoded_lem (Insn.Mulhu rd rs1 rs2) h = encoded_r 0x02003033 Insn.Mulhu (refl, refl) refl rd rs1 rs2 h
+encoded_is_decoded_lem (Insn.Div rd rs1 rs2) h = encoded_r 0x02004033 Insn.Div (refl, refl) refl rd rs1 rs2 h
+encoded_is_decoded_lem (Insn.Divu rd rs1 rs2) h = encoded_r 0x02005033 Insn.Divu (refl, refl) refl rd rs1 rs2 h
+encoded_is_decoded_lem (Insn.Rem rd rs1 rs2) h = encoded_r 0x02006033 Insn.Rem (refl, refl) refl rd rs1 rs2 h
+encoded_is_decoded_lem (Insn.Remu rd rs1 rs2) h = encoded_r 0x02007033 Insn.Remu (refl, refl) refl rd rs1 rs2 h
+encoded_is_decoded_lem (Insn.Mulw rd rs1 rs2) h = encoded_r 0x0200003b Insn.Mulw (refl, refl) refl rd rs1 rs2 h
+encoded_is_decoded_lem (Insn.Divw rd rs1 rs2) h = encoded_r 0x0200403b Insn.Divw (refl, refl) refl rd rs1 rs2 h
+encoded_is_decoded_lem (Insn.Divuw rd rs1 rs2) h = encoded_r 0x0200503b Insn.Divuw (refl, refl) refl rd rs1 rs2 h
+encoded_is_decoded_lem (Insn.Remw rd rs1 rs2) h = encoded_r 0x0200603b Insn.Remw (refl, refl) refl rd rs1 rs2 h
+encoded_is_decoded_lem (Insn.Remuw rd rs1 rs2) h = encoded_r 0x0200703b Insn.Remuw (refl, refl) refl rd rs1 rs2 h
+encoded_is_decoded_lem Insn.Fence h = decoded_as 0x0000000f (row_plain 0x0000707f 0x0000000f Insn.Fence) 0x0000000f refl refl
+encoded_is_decoded_lem Insn.FenceI h = decoded_as 0x0000100f (row_plain 0x0000707f 0x0000100f Insn.FenceI) 0x0000100f refl refl
+encoded_is_decoded_lem (Insn.Csrrw rd rs1 csr) h = encoded_csr 0x00001073 Insn.Csrrw (refl, refl) refl rd rs1 csr h
+encoded_is_decoded_lem (Insn.Csrrs rd rs1 csr) h = encoded_csr 0x00002073 Insn.Csrrs (refl, refl) refl rd rs1 csr h
+encoded_is_decoded_lem (Insn.Csrrc rd rs1 csr) h = encoded_csr 0x00003073 Insn.Csrrc (refl, refl) refl rd rs1 csr h
+encoded_is_decoded_lem (Insn.Csrrwi rd uimm csr) h = encoded_csr_immediate 0x00005073 Insn.Csrrwi (refl, refl) refl rd uimm csr h
+encoded_is_decoded_lem (Insn.Csrrsi rd uimm csr) h = encoded_csr_immediate 0x00006073 Insn.Csrrsi (refl, refl) refl rd uimm csr h
+encoded_is_decoded_lem (Insn.Csrrci rd uimm csr) h = encoded_csr_immediate 0x00007073 Insn.Csrrci (refl, refl) refl rd uimm csr h
+encoded_is_decoded_lem Insn.Ecall h = decoded_as 0x00000073 (row_plain 0xffffffff 0x00000073 Insn.Ecall) 0x00000073 refl refl
+encoded_is_decoded_lem Insn.Ebreak h = decoded_as 0x00100073 (row_plain 0xffffffff 0x00100073 Insn.Ebreak) 0x00100073 refl refl
+encoded_is_decoded_lem Insn.Sret h = decoded_as 0x10200073 (row_plain 0xffffffff 0x10200073 Insn.Sret) 0x10200073 refl refl
+encoded_is_decoded_lem Insn.Mret h = decoded_as 0x30200073 (row_plain 0xffffffff 0x30200073 Insn.Mret) 0x30200073 refl refl
+encoded_is_decoded_lem Insn.Wfi h = decoded_as 0x10500073 (row_plain 0xffffffff 0x10500073 Insn.Wfi) 0x10500073 refl refl
+encoded_is_decoded_lem Insn.Dret h = decoded_as 0x7b200073 (row_plain 0xffffffff 0x7b200073 Insn.Dret) 0x7b200073 refl refl
+encoded_is_decoded_lem (Insn.SfenceVma rs1 rs2) h = encoded_fence 0x12000073 Insn.SfenceVma (refl, refl, refl) refl rs1 rs2 h
+encoded_is_decoded_lem (Insn.LrW rd rs1) h = encoded_reserve 0x1000202f Insn.LrW (refl, refl) refl rd rs1 h
+encoded_is_decoded_lem (Insn.LrD rd rs1) h = encoded_reserve 0x1000302f Insn.LrD (refl, refl) refl rd rs1 h
+encoded_is_decoded_lem (Insn.ScW rd rs1 rs2) h = encoded_atomic 0x1800202f Insn.ScW (refl, refl) refl rd rs1 rs2 h
+encoded_is_decoded_lem (Insn.AmoswapW rd rs1 rs2) h = encoded_atomic 0x0800202f Insn.AmoswapW (refl, refl) refl rd rs1 rs2 h
+encoded_is_decoded_lem (Insn.AmoaddW rd rs1 rs2) h = encoded_atomic 0x0000202f Insn.AmoaddW (refl, refl) refl rd rs1 rs2 h
+encoded_is_decoded_lem (Insn.AmoxorW rd rs1 rs2) h = encoded_atomic 0x2000202f Insn.AmoxorW (refl, refl) refl rd rs1 rs2 h
+encoded_is_decoded_lem (Insn.AmoandW rd rs1 rs2) h = encoded_atomic 0x6000202f Insn.AmoandW (refl, refl) refl rd rs1 rs2 h
+encoded_is_decoded_lem (Insn.AmoorW rd rs1 rs2) h = encoded_atomic 0x4000202f Insn.AmoorW (refl, refl) refl rd rs1 rs2 h
+encoded_is_decoded_lem (Insn.AmominW rd rs1 rs2) h = encoded_atomic 0x8000202f Insn.AmominW (refl, refl) refl rd rs1 rs2 h
+encoded_is_decoded_lem (Insn.AmomaxW rd rs1 rs2) h = encoded_atomic 0xa000202f Insn.AmomaxW (refl, refl) refl rd rs1 rs2 h
+encoded_is_decoded_lem (Insn.AmominuW rd rs1 rs2) h = encoded_atomic 0xc000202f Insn.AmominuW (refl, refl) refl rd rs1 rs2 h
+encoded_is_decoded_lem (Insn.AmomaxuW rd rs1 rs2) h = encoded_atomic 0xe000202f Insn.AmomaxuW (refl, refl) refl rd rs1 rs2 h
+encoded_is_decoded_lem (Insn.ScD rd rs1 rs2) h = encoded_atomic 0x1800302f Insn.ScD (refl, refl) refl rd rs1 rs2 h
+encoded_is_decoded_lem (Insn.AmoswapD rd rs1 rs2) h = encoded_atomic 0x0800302f Insn.AmoswapD (refl, refl) refl rd rs1 rs2 h
+encoded_is_decoded_lem (Insn.AmoaddD rd rs1 rs2) h = encoded_atomic 0x0000302f Insn.AmoaddD (refl, refl) refl rd rs1 rs2 h
+encoded_is_decoded_lem (Insn.AmoxorD rd rs1 rs2) h = encoded_atomic 0x2000302f Insn.AmoxorD (refl, refl) refl rd rs1 rs2 h
+encoded_is_decoded_lem (Insn.AmoandD rd rs1 rs2) h = encoded_atomic 0x6000302f Insn.AmoandD (refl, refl) refl rd rs1 rs2 h
+encoded_is_decoded_lem (Insn.AmoorD rd rs1 rs2) h = encoded_atomic 0x4000302f Insn.AmoorD (refl, refl) refl rd rs1 rs2 h
+encoded_is_decoded_lem (Insn.AmominD rd rs1 rs2) h = encoded_atomic 0x8000302f Insn.AmominD (refl, refl) refl rd rs1 rs2 h
+encoded_is_decoded_lem (Insn.AmomaxD rd rs1 rs2) h = encoded_atomic 0xa000302f Insn.AmomaxD (refl, refl) refl rd rs1 rs2 h
+encoded_is_decoded_lem (Insn.AmominuD rd rs1 rs2) h = encoded_atomic 0xc000302f Insn.AmominuD (refl, refl) refl rd rs1 rs2 h
+encoded_is_decoded_lem (Insn.AmomaxuD rd rs1 rs2) h = encoded_atomic 0xe000302f Insn.AmomaxuD (refl, refl) refl rd rs1 rs2 h
