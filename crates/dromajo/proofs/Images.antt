@@ -2,7 +2,7 @@
 use Rattle.std.proofs.Common.{◌≡◌, ℕ, ◌<◌, Bool, true, List, length, Option, Some, None, IfSome, refl, sym, ap, subst, arith}
 use Rattle.std.specs.Prelude.{nat_lt, if◌then◌else◌}
 use Rattle.outside_io.specs.Content.{file_of}
-use Rattle.dromajo.specs.declared.status.ElfFault.TheVariants.{OutsideRam}
+use Rattle.elf_load.specs.declared.fault.ElfFault.TheVariants.{NotElf, WrongKind, Truncated, OutsideRam, Shrinks, TooLong}
 use Rattle.dromajo.specs.declared.status.Status.{Status}
 use Rattle.dromajo.specs.declared.status.Status.TheVariants.{Done, Usage, BadElf, ReadFault, WriteFault, NoMemory, NotBuilt}
 use Rattle.dromajo.specs.Image.{IsRefusedImage}
@@ -35,6 +35,11 @@ each_told P Q (Some c) step p = step c p
 pub image_refused : (status : Status) (held : Option Held) (name : List ℕ) (before now n : ℕ) (out : Option (List ℕ)) → IsRefusedImage status held name before now → IsSettled status → IfSome held (λ files. IsImageResult (image_result n files (file_of files name)) status n out out)
 image_refused (BadElf (OutsideRam segment)) held name before now n out why settled =
     each_told _ _ held (λ files above. refused_result n segment files (file_of files name) out why.0 above) why.1
+image_refused (BadElf NotElf) held name before now n out why settled = absurd why
+image_refused (BadElf (WrongKind field)) held name before now n out why settled = absurd why
+image_refused (BadElf (Truncated offset)) held name before now n out why settled = absurd why
+image_refused (BadElf (Shrinks segment)) held name before now n out why settled = absurd why
+image_refused (BadElf (TooLong len)) held name before now n out why settled = absurd why
 image_refused (ReadFault which) held name before now n out why settled = absurd settled
 image_refused (WriteFault which) held name before now n out why settled = absurd settled
 image_refused NoMemory held name before now n out why settled = absurd settled

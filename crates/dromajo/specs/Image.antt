@@ -2,7 +2,7 @@
 use Rattle.std.specs.Prelude.{◌≡◌, ◌≤◌, ◌<◌, ℕ, List, length, Option, IfSome}
 use Rattle.outside_io.specs.Causes.{Rose}
 use Rattle.outside_io.specs.Content.{file_of}
-use Rattle.dromajo.specs.declared.status.ElfFault.TheVariants.{OutsideRam}
+use Rattle.elf_load.specs.declared.fault.ElfFault.TheVariants.{NotElf, WrongKind, Truncated, OutsideRam, Shrinks, TooLong}
 use Rattle.dromajo.specs.declared.status.Status.{Status}
 use Rattle.dromajo.specs.declared.status.Status.TheVariants.{Done, Usage, BadElf, ReadFault, WriteFault, NoMemory, NotBuilt}
 use Rattle.dromajo.specs.declared.status.Which.TheVariants.{Files, Out, Report}
@@ -17,6 +17,11 @@ pub record IsImage (file ram : List ℕ) : Type 0 where
 abbrev pub IsRefusedImage : Status → Option (List ℕ → Option (List ℕ)) → List ℕ → ℕ → ℕ → Type 0
 IsRefusedImage (BadElf (OutsideRam segment)) held name before now =
     (segment ≡ 0) × IfSome held (λ files. flat_ram < length (file_of files name)) × (now ≡ before)
+IsRefusedImage (BadElf NotElf) held name before now = ⊥
+IsRefusedImage (BadElf (WrongKind field)) held name before now = ⊥
+IsRefusedImage (BadElf (Truncated offset)) held name before now = ⊥
+IsRefusedImage (BadElf (Shrinks segment)) held name before now = ⊥
+IsRefusedImage (BadElf (TooLong len)) held name before now = ⊥
 IsRefusedImage (ReadFault Files) held name before now = Rose before now
 IsRefusedImage NoMemory held name before now = now ≡ before
 IsRefusedImage (ReadFault Out) held name before now = ⊥

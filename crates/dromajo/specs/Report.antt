@@ -1,7 +1,9 @@
 -- The one line that the program reports.
 use Rattle.std.specs.Prelude.{ℕ, zero, suc, ◌+◌, ◌*◌, ◌/◌, ◌%◌, ◌^◌, List, [], ◌∷◌, ◌++◌, codes, decimal, nat_lt, if◌then◌else◌}
-use Rattle.dromajo.specs.declared.status.ElfFault.{ElfFault}
-use Rattle.dromajo.specs.declared.status.ElfFault.TheVariants.{OutsideRam}
+use Rattle.elf_load.specs.declared.fault.ElfFault.{ElfFault}
+use Rattle.elf_load.specs.declared.fault.ElfFault.TheVariants.{NotElf, WrongKind, Truncated, OutsideRam, Shrinks, TooLong}
+use Rattle.elf_load.specs.declared.fault.ElfField.{ElfField}
+use Rattle.elf_load.specs.declared.fault.ElfField.TheVariants.{Class, Order, Type2, Machine, Phentsize, Entry, Shentsize, Link, Tohost}
 use Rattle.dromajo.specs.declared.status.Status.{Status}
 use Rattle.dromajo.specs.declared.status.Status.TheVariants.{Done, Usage, BadElf, ReadFault, WriteFault, NoMemory, NotBuilt}
 use Rattle.dromajo.specs.declared.status.Which.{Which}
@@ -21,8 +23,24 @@ object_name Files = codes "files"
 object_name Out = codes "out"
 object_name Report = codes "report"
 
+abbrev pub field_name : ElfField → List ℕ
+field_name Class = codes "class"
+field_name Order = codes "order"
+field_name Type2 = codes "type"
+field_name Machine = codes "machine"
+field_name Phentsize = codes "phentsize"
+field_name Entry = codes "entry"
+field_name Shentsize = codes "shentsize"
+field_name Link = codes "link"
+field_name Tohost = codes "tohost"
+
 abbrev pub elf_text : ElfFault → List ℕ
+elf_text NotElf = codes "elf not-elf"
+elf_text (WrongKind field) = codes "elf wrong-kind " ++ field_name field
+elf_text (Truncated offset) = codes "elf truncated " ++ decimal offset
 elf_text (OutsideRam segment) = codes "elf outside-ram " ++ decimal segment
+elf_text (Shrinks segment) = codes "elf shrinks " ++ decimal segment
+elf_text (TooLong len) = codes "elf too-long " ++ decimal len
 
 -- the text of a status; that of a job that was done has the turns made and the input bytes taken
 abbrev pub status_text : Status → ℕ → ℕ → List ℕ

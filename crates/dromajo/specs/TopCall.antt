@@ -3,7 +3,7 @@ use Rattle.std.specs.Prelude.{◌≡◌, ◌≢◌, ℕ, List, [], length, take,
 use Rattle.std.specs.Io.KnownBytes.{Appends}
 use Rattle.outside_io.specs.Causes.{Rose}
 use Rattle.outside_io.specs.Content.{file_of}
-use Rattle.dromajo.specs.declared.status.ElfFault.TheVariants.{OutsideRam}
+use Rattle.elf_load.specs.declared.fault.ElfFault.TheVariants.{OutsideRam}
 use Rattle.dromajo.specs.declared.status.Status.{Status}
 use Rattle.dromajo.specs.declared.status.Status.TheVariants.{Done, Usage, BadElf, ReadFault, WriteFault, NoMemory, NotBuilt}
 use Rattle.dromajo.specs.declared.status.Which.TheVariants.{Files, Out, Report}

@@ -6,7 +6,8 @@ ghost use Rattle.outside_io.specs.Content.{ReadsFrom, Told, file_of};
 ghost use Rattle.dromajo.specs.Image.{IsImage, IsRefusedImage};
 ghost use Rattle.dromajo.specs.Machine.{flat_ram};
 
-use crate::status::{ElfFault, Status, Which};
+use crate::status::{Status, Which};
+use elf_load::ElfFault;
 use guest_ram::{BASE, GuestRam};
 use outside_io::{Files, OutFault};
 use std::alloc::Global;
@@ -30,7 +31,8 @@ fn fill_some<F: Files>(
     ensures length { length ram.new ≡ length ram.old }
     ensures front { take done ram.new ≡ take done ram.old }
     ensures back { drop size ram.new ≡ drop size ram.old }
-    ensures bytes { IfOk result (λ n. IfSome (F.held files.old) (λ held. ReadsFrom (file_of held name.now) done n (drop done (take size ram.new)))) }
+    ensures bytes { IfOk result (λ n. IfSome (F.held files.old) (λ held.
+        ReadsFrom (file_of held name.now) done n (drop done (take size ram.new)))) }
     ensures content { Told (F.held files.old) (F.held files.new) (λ old new. new ≡ old) }
     ensures cause { HasCause (F.read_faults files.old) (F.read_faults files.new) result }
     ensures never_starved { result ≢ Err OutFault.NoMemory }
@@ -48,7 +50,8 @@ fn fill<F: Files>(files: &mut F, name: &str, ram: &mut GuestRam, size: u64) -> R
     requires room { size ≤ length ram.old }
     ensures length { length ram.new ≡ length ram.old }
     ensures back { drop size ram.new ≡ drop size ram.old }
-    ensures bytes { OnOk result (IfSome (F.held files.old) (λ held. size ≡ length (file_of held name.now) → take size ram.new ≡ file_of held name.now)) }
+    ensures bytes { OnOk result (IfSome (F.held files.old) (λ held.
+        size ≡ length (file_of held name.now) → take size ram.new ≡ file_of held name.now)) }
     ensures content { Told (F.held files.old) (F.held files.new) (λ old new. new ≡ old) }
     ensures cause { HasCause (F.read_faults files.old) (F.read_faults files.new) result }
     ensures never_starved { result ≢ Err OutFault.NoMemory }
@@ -74,8 +77,10 @@ pub(crate) fn load_image<F: Files>(
     files: &mut F,
     name: &str,
 ) -> Result<GuestRam, Status>
-    ensures ram { IfOk result (λ ram. IfSome (F.held files.old) (λ held. IsImage (file_of held name.now) ram)) }
-    ensures refused { IfErr result (λ status. IsRefusedImage status (F.held files.old) name.now (F.read_faults files.old) (F.read_faults files.new)) }
+    ensures ram { IfOk result (λ ram. IfSome (F.held files.old) (λ held.
+        IsImage (file_of held name.now) ram)) }
+    ensures refused { IfErr result (λ status. IsRefusedImage status (F.held files.old) name.now
+        (F.read_faults files.old) (F.read_faults files.new)) }
     ensures content { Told (F.held files.old) (F.held files.new) (λ old new. new ≡ old) }
     ensures count { OnOk result (F.read_faults files.new ≡ F.read_faults files.old) }
 {

@@ -13,7 +13,7 @@ mod turn;
 mod words;
 
 use outside_io::{DirFiles, StdSink, StdSource};
-pub use status::{ElfFault, Status, Which};
+pub use status::{Status, Which};
 use std::alloc::AllocError;
 use std::env;
 use std::process::ExitCode;

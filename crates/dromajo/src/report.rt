@@ -1,9 +1,10 @@
 // The one line that the program reports.
 
 ghost use Rattle.std.specs.Prelude.{◌≡◌, ◌<◌, ◌≤◌, ◌++◌, ◌∷◌, [], IfOk, OnOk, string_bytes};
-ghost use Rattle.dromajo.specs.Report.{elf_text, hex, hex_digit, object_name, report_line, status_text};
+ghost use Rattle.dromajo.specs.Report.{elf_text, field_name, hex, hex_digit, object_name, report_line, status_text};
 
-use crate::status::{ElfFault, Status, Which};
+use crate::status::{Status, Which};
+use elf_load::{ElfFault, ElfField};
 use std::alloc::{AllocError, Global};
 
 /// A lower-case hexadecimal digit.
@@ -53,6 +54,40 @@ fn object_name(which: Which) -> &'static str
     }
 }
 
+/// The name of a field of an ELF file.
+fn field_name(field: ElfField) -> &'static str
+    ensures { result.now ≡ field_name field }
+{
+    match field {
+        ElfField::Class => "class",
+        ElfField::Order => "order",
+        ElfField::Type2 => "type",
+        ElfField::Machine => "machine",
+        ElfField::Phentsize => "phentsize",
+        ElfField::Entry => "entry",
+        ElfField::Shentsize => "shentsize",
+        ElfField::Link => "link",
+        ElfField::Tohost => "tohost",
+    }
+}
+
+/// Why a program is refused.
+fn elf_text(alloc: Global, fault: ElfFault) -> Result<String, AllocError>
+    ensures { IfOk result (λ text. string_bytes text ≡ elf_text fault) }
+{
+    match fault {
+        ElfFault::NotElf => String::from_str(alloc, "elf not-elf"),
+        ElfFault::WrongKind(field) => {
+            let name = field_name(field);
+            format!(in alloc; "elf wrong-kind {name}")
+        }
+        ElfFault::Truncated(offset) => format!(in alloc; "elf truncated {offset}"),
+        ElfFault::OutsideRam(segment) => format!(in alloc; "elf outside-ram {segment}"),
+        ElfFault::Shrinks(segment) => format!(in alloc; "elf shrinks {segment}"),
+        ElfFault::TooLong(len) => format!(in alloc; "elf too-long {len}"),
+    }
+}
+
 fn not_built_text(alloc: Global, word: u32, pc: u64) -> Result<String, AllocError>
     ensures { IfOk result (λ text. string_bytes text ≡ status_text (Status.NotBuilt word pc) 0 0) }
 {
@@ -70,9 +105,7 @@ fn text_of(alloc: Global, status: Status, turns: u64, taken: u64) -> Result<Stri
     match status {
         Status::Done => format!(in alloc; "done turns={turns} taken={taken}"),
         Status::Usage => String::from_str(alloc, "usage: dromajo command --name value"),
-        Status::BadElf(ElfFault::OutsideRam(segment)) => {
-            format!(in alloc; "elf outside-ram {segment}")
-        }
+        Status::BadElf(fault) => elf_text(alloc, fault),
         Status::ReadFault(which) => {
             let name = object_name(which);
             format!(in alloc; "read fault {name}")

@@ -24,8 +24,10 @@ pub(crate) struct Ended {
 /// at which it stopped.
 fn shown_turn<O: Sink>(core: &mut Core, out: &mut O) -> Result<Option<(u32, u64)>, OutFault>
     requires { 0 < length core.old.harts }
-    ensures shown { IfOk result (λ stop. TurnIsShown core.old core.new stop (O.written out.old) (O.written out.new)) }
-    ensures cut { OnErr result (TurnIsCut core.old core.new (O.written out.old) (O.written out.new)) }
+    ensures shown { IfOk result (λ stop.
+        TurnIsShown core.old core.new stop (O.written out.old) (O.written out.new)) }
+    ensures cut { OnErr result
+        (TurnIsCut core.old core.new (O.written out.old) (O.written out.new)) }
     ensures cause { HasCause (O.faults out.old) (O.faults out.new) result }
     ensures harts { length core.new.harts ≡ length core.old.harts }
 {
@@ -44,8 +46,10 @@ fn shown_turn<O: Sink>(core: &mut Core, out: &mut O) -> Result<Option<(u32, u64)
 /// console bytes of each.
 pub(crate) fn run<O: Sink>(core: &mut Core, turns: u64, out: &mut O) -> Status
     requires { 0 < length core.old.harts }
-    ensures ran { IsSettled result → IsRun (turns_of turns (at_start core.old)) result (O.written out.old) (O.written out.new) }
-    ensures front { AppendsFront (O.written out.old) (O.written out.new) (turns_of turns (at_start core.old)).console }
+    ensures ran { IsSettled result → IsRun (turns_of turns (at_start core.old)) result
+        (O.written out.old) (O.written out.new) }
+    ensures front { AppendsFront (O.written out.old) (O.written out.new)
+        (turns_of turns (at_start core.old)).console }
     ensures cause { HasRunCause result (O.faults out.old) (O.faults out.new) }
 {
     for _ in 0..turns {

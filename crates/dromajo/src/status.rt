@@ -3,6 +3,8 @@
 ghost use Rattle.std.specs.Prelude.{◌≡◌};
 ghost use Rattle.dromajo.specs.Codes.{code_of};
 
+use elf_load::ElfFault;
+
 /// The object that failed.
 #[derive(Clone, Copy, PartialEq, Eq, Debug)]
 pub enum Which {
@@ -14,13 +16,6 @@ pub enum Which {
     Report,
 }
 
-/// Why a program is refused.
-#[derive(Clone, Copy, PartialEq, Eq, Debug)]
-pub enum ElfFault {
-    /// The segment of this number lies outside memory; 0 for a flat image that is too long.
-    OutsideRam(u16),
-}
-
 /// How a call ended. Each status has a number, with which the program ends.
 #[derive(Clone, Copy, PartialEq, Eq, Debug)]
 pub enum Status {
@@ -28,7 +23,7 @@ pub enum Status {
     Done,
     /// 2: the words name no job.
     Usage,
-    /// 4: the program is refused.
+    /// 4: the program is refused; a flat image that is too long is `OutsideRam(0)`.
     BadElf(ElfFault),
     /// 7: a read failed.
     ReadFault(Which),

@@ -2,6 +2,7 @@
 // of the program's documents and of programs reckoned by hand.
 
 use super::*;
+use elf_load::ElfFault;
 use outside_io::{MemFiles, MemSink, MemSource, OutFault};
 use std::alloc::{AllocError, Global};
 

@@ -68,7 +68,9 @@ impl Answers for TurnOutput {
 fn step_once(core: &mut Core, output: &mut TurnOutput) -> Option<(u32, u64)>
     requires hart { 0 < length core.old.harts }
     requires room { length output.old < 16 }
-    ensures follows { (ran : Ran) (before : List ℕ) → Follows ran before core.old output.old None → Follows (step_unless ran None) before core.new output.new result }
+    ensures follows { (ran : Ran) (before : List ℕ) →
+        Follows ran before core.old output.old None →
+        Follows (step_unless ran None) before core.new output.new result }
     ensures harts { length core.new.harts ≡ length core.old.harts }
     ensures room { length output.new ≤ length output.old + 1 }
 {
@@ -83,7 +85,8 @@ fn step_once(core: &mut Core, output: &mut TurnOutput) -> Option<(u32, u64)>
 pub(crate) fn turn(core: &mut Core, output: &mut TurnOutput) -> Option<(u32, u64)>
     requires hart { 0 < length core.old.harts }
     requires empty { output.old ≡ [] }
-    ensures follows { (ran : Ran) → ran.core ≡ core.old → ran.stop ≡ None → Follows (steps flat_slice ran) ran.console core.new output.new result }
+    ensures follows { (ran : Ran) → ran.core ≡ core.old → ran.stop ≡ None →
+        Follows (steps flat_slice ran) ran.console core.new output.new result }
     ensures harts { length core.new.harts ≡ length core.old.harts }
 {
     for _ in 0..SLICE {

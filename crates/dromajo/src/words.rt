@@ -27,7 +27,8 @@ pub(crate) struct Values<'a> {
 impl<'a> Values<'a> {
     /// With one more number of turns, none where one was given before.
     fn with_turns(self, value: &'a str) -> Option<Values<'a>>
-        ensures { (words : List (List ℕ)) → Continues self.entry result (codes "--turns") value.now words }
+        ensures { (words : List (List ℕ)) →
+            Continues self.entry result (codes "--turns") value.now words }
     {
         if self.turns.is_some() {
             return None;
@@ -40,7 +41,8 @@ impl<'a> Values<'a> {
 
     /// With one more image, none where one was given before.
     fn with_image(self, value: &'a str) -> Option<Values<'a>>
-        ensures { (words : List (List ℕ)) → Continues self.entry result (codes "--image") value.now words }
+        ensures { (words : List (List ℕ)) →
+            Continues self.entry result (codes "--image") value.now words }
     {
         if self.image.is_some() {
             return None;
@@ -66,7 +68,8 @@ impl<'a> Values<'a> {
 
     /// The job of these values.
     fn job(self) -> Option<Job<'a>>
-        ensures { option_map job_seen result ≡ job_of_values (found_list self.entry.turns) (found_list self.entry.image) }
+        ensures { option_map job_seen result
+            ≡ job_of_values (found_list self.entry.turns) (found_list self.entry.image) }
     {
         let turns = number(self.turns?, MOST_TURNS)?;
         let image = self.image?;
@@ -79,7 +82,9 @@ impl<'a> Values<'a> {
 
 /// The values of the pairs after `run`, in one walk.
 fn walk(words: &[String]) -> Option<Values<'_>>
-    ensures { MatchOption result (run_after [] [] (texts words.now) ≡ None) (λ values. run_after [] [] (texts words.now) ≡ job_of_values (found_list values.turns) (found_list values.image)) }
+    ensures { MatchOption result (run_after [] [] (texts words.now) ≡ None) (λ values.
+        run_after [] [] (texts words.now)
+        ≡ job_of_values (found_list values.turns) (found_list values.image)) }
 {
     let mut values = Values {
         turns: None,

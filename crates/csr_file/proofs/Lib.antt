@@ -1,0 +1,4 @@
+pub mod LegalLaws
+pub mod FitLaws
+pub mod AccessLaws
+pub mod WriteLaws

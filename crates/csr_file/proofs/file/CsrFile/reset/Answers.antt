@@ -1,0 +1,7 @@
+use Rattle.std.proofs.Common.{sym, subst}
+use Rattle.csr_file.specs.Kept.{IsFit}
+use Rattle.csr_file.proofs.FitLaws.{reset_registers-fit}
+use Rattle.csr_file.proofs.file.CsrFile.reset.Goals as goal
+
+pub invariant_of-result : goal.invariant_of-result
+invariant_of-result c = subst IsFit (sym c.reset.ensures) (reset_registers-fit _ c.requires)

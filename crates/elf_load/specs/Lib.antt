@@ -1,0 +1,5 @@
+pub mod First
+pub mod Format
+pub mod Loading
+pub mod Refusal
+pub mod Symbols

@@ -1,0 +1,6 @@
+pub mod Bits
+pub mod Kept
+pub mod Reckoned
+pub mod Steps
+pub mod Stores
+pub mod Walks
