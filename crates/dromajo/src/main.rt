@@ -2,6 +2,8 @@
 //! one line. [`dromajo`] is the whole of it; `main` hands it the real files and streams.
 #![tactic(auto)]
 
+#[cfg(test)]
+mod hello;
 mod image;
 mod report;
 mod run;

@@ -2,8 +2,9 @@
 // of the program's documents and of programs reckoned by hand.
 
 use super::*;
+use crate::hello::{HELLO, HELLO_LINE};
 use elf_load::ElfFault;
-use outside_io::{MemFiles, MemSink, MemSource, OutFault};
+use outside_io::{MemFiles, MemSink, MemSource, OutFault, Source};
 use std::alloc::{AllocError, Global};
 
 // The four objects of a call.
@@ -20,9 +21,11 @@ impl Outside {
     fn new(alloc: Global, image: &[u8]) -> Result<Outside, OutFault> {
         let mut files = MemFiles::new(alloc);
         files.put("a.bin", image)?;
+        let mut input = MemSource::new(alloc);
+        input.give(b"?")?;
         Ok(Outside {
             files,
-            input: MemSource::new(alloc),
+            input,
             out: MemSink::new(alloc),
             report: MemSink::new(alloc),
         })
@@ -226,7 +229,22 @@ fn words_and_images_give_their_status_console_and_report(rt: HostRuntime) -> Res
         assert_eq!(rt; outside.out.bytes(), console.as_bytes(), "{line}");
         assert_eq!(rt; outside.report.bytes(), report.as_bytes(), "{line}");
         assert_eq!(rt; outside.files.bytes("a.bin"), Some(image), "{line}");
+        let mut left = [0u8; 2];
+        assert_eq!(rt; outside.input.read(&mut left), Ok(1), "{line}");
     }
+    Ok(())
+}
+
+#[test]
+fn an_assembled_program_prints_what_it_computes(rt: HostRuntime) -> Result<(), OutFault> {
+    let mut outside = Outside::new(rt.alloc(), &HELLO)?;
+    let answered = outside.call(rt.alloc(), "run --image a.bin --turns 200");
+    assert_eq!(rt; answered, Ok(Status::Done));
+    assert_eq!(rt; outside.out.bytes(), HELLO_LINE.as_bytes());
+    assert_eq!(rt;
+        outside.report.bytes(),
+        "done turns=200 taken=0\n".as_bytes()
+    );
     Ok(())
 }
 

@@ -1,8 +1,8 @@
 // The checks that come before the first write to memory.
 
-ghost use Rattle.std.specs.Prelude.{◌≡◌, ◌+◌, ◌*◌, ◌≤◌, ◌⊎◌, IsTrue, IfOk, OnOk, None, length, nat_lt};
-ghost use Rattle.elf_load.specs.Format.{header_of, header_size, reaches_past, segment_of, segment_size};
-ghost use Rattle.elf_load.specs.Loading.{HasHeader, field_fault, header_fault, is_in_ram, is_loaded, longest_file, segment_fault, segments_fault, table_fault};
+ghost use Rattle.std.specs.Prelude.{◌≡◌, IfOk};
+ghost use Rattle.elf_load.specs.Format.{header_of, reaches_past};
+ghost use Rattle.elf_load.specs.Loading.{HasHeader, field_fault, header_fault, is_in_ram, segment_fault, segments_fault, table_fault};
 ghost use Rattle.elf_load.specs.Refusal.{RefusedBy};
 
 use crate::fault::{ElfFault, ElfField};

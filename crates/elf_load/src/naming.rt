@@ -1,8 +1,8 @@
 // The call that finds a symbol.
 
-ghost use Rattle.std.specs.Prelude.{◌≡◌, ◌+◌, ◌*◌, ◌<◌, ◌≤◌, ◌/◌, length};
-ghost use Rattle.elf_load.specs.Format.{header_of, section_bytes, section_of, section_size, symbol_size};
-ghost use Rattle.elf_load.specs.Loading.{HasHeader, longest_file};
+ghost use Rattle.std.specs.Prelude.{◌≡◌, ◌+◌, ◌*◌, ◌≤◌, length};
+ghost use Rattle.elf_load.specs.Format.{header_of, section_bytes, section_size};
+ghost use Rattle.elf_load.specs.Loading.{HasHeader};
 ghost use Rattle.elf_load.specs.Symbols.{begins_with_name, checked_value_in, named_value, symbol_table, symbol_value, value_by_table, value_in};
 
 use crate::checks::reaches_past;

@@ -1,4 +1,2 @@
 pub mod Harts
-pub mod Decode
-pub mod Fields
 pub mod Step

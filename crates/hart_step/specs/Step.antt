@@ -1,20 +1,23 @@
 -- One step of a hart (Unprivileged ISA, "RV32I Base Integer Instruction Set" and "RV64I Base Integer
 -- Instruction Set"). It is a chain of small definitions: what was fetched, what it decodes to, what the
 -- instruction does, and what the step then shows and leaves.
-use Rattle.std.specs.Prelude.{◌≡◌, ℕ, ◌+◌, ◌*◌, ◌%◌, ◌^◌, ◌==◌, ◌&&◌, ◌||◌, ℤ, pos, ◌+ℤ◌, Bool, true, List, length, Option, Some, None, nat_le, slice_set, ⊤, if◌then◌else◌}
+use Rattle.std.specs.Prelude.{◌≡◌, ℕ, ◌+◌, ◌-◌, ◌*◌, ◌%◌, ◌^◌, ◌<◌, ◌==◌, ◌&&◌, ◌||◌, ℤ, pos, ◌+ℤ◌, Bool, true, List, length, Option, Some, None, nat_le, slice_set, ⊤, if◌then◌else◌}
 use Rattle.byteorder.specs.Endian.{little_bytes}
 use Rattle.guest_ram.specs.Bytes.{base, number_at, with_part}
-use Rattle.rv_alu.specs.declared.BinOp.TheVariants as operations
-use Rattle.rv_alu.specs.Arithmetic.{alu_of, modulo}
-use Rattle.hart_step.specs.declared.decode.Insn.{Insn}
-use Rattle.hart_step.specs.declared.decode.Insn.TheVariants.{Lui, Jal, Addi, Sb}
+use Rattle.rv_alu.specs.declared.BinOp.{BinOp}
+use Rattle.rv_alu.specs.declared.MulOp.{MulOp}
+use Rattle.rv_alu.specs.declared.CondOp.{CondOp}
+use Rattle.rv_alu.specs.Arithmetic.{alu_of, is_taken, modulo, mul_div_of, sign_extended}
+use Rattle.rv_decode.specs.declared.Insn.{Insn}
+use Rattle.rv_decode.specs.Compressed.{expanded}
+use Rattle.rv_decode.specs.Words.{decoded as word_decoded}
 use Rattle.hart_step.specs.declared.event.Event.{Event}
 use Rattle.hart_step.specs.declared.event.Event.TheVariants.{Commit}
 use Rattle.hart_step.specs.declared.execute.Done.{Done}
+use Rattle.hart_step.specs.declared.memory.Extension.{Extension}
 use Rattle.hart_step.specs.declared.fetch.Fetched.{Fetched}
 use Rattle.hart_step.specs.declared.fetch.Fetched.TheVariants.{Word, Faulted}
 use Rattle.hart_step.specs.declared.hart.Hart.{Hart}
-use Rattle.hart_step.specs.Decode.{decode_in, rows}
 use Rattle.hart_step.specs.Harts.{CoreState, hart_of, register, with_register, shown_register, privilege_of}
 
 -- ---- what a step is given, and what it answers
@@ -70,16 +73,21 @@ with_low ram pc (Some low) =
 abbrev pub fetched : List ℕ → ℕ → Fetched
 fetched ram pc = with_low ram pc (parcel_at ram pc)
 
--- an instruction's word has two or four bytes
+-- an instruction's word has an even number of bytes
 abbrev pub HasEvenLength : Fetched → Type 0
 HasEvenLength (Word word len) = len % 2 ≡ 0
 HasEvenLength (Faulted cause at) = ⊤
 
+-- a word of two bytes has zeros above them
+abbrev pub HasZerosAbove : Fetched → Type 0
+HasZerosAbove (Word word len) = len ≡ 2 → word < 2 ^ 16
+HasZerosAbove (Faulted cause at) = ⊤
+
 -- ---- decoding
 
--- the instruction of a fetched word, by its length; no 16-bit form is built yet
+-- the instruction of a fetched word, by its length in bytes: a word of two is a compressed form
 abbrev pub decoded : ℕ → ℕ → Option Insn
-decoded word len = if len == 4 then decode_in rows word else None
+decoded word len = if len == 2 then expanded word else word_decoded word
 
 -- ---- what an instruction does
 
@@ -99,7 +107,10 @@ pub data Outcome : Type 0 where
 abbrev pub offset_by : ℕ → ℤ → ℕ
 offset_by at imm = modulo 64 (pos at +ℤ imm)
 
--- what is shown of an instruction that writes a register, and of one that stores
+-- what is shown of an instruction that does neither, of one that writes a register, and of one that stores
+abbrev pub shows_nothing : Done
+shows_nothing = record { rd = None; st = None; dv = None; vl = None }
+
 abbrev pub shows_write : ℕ → ℕ → Done
 shows_write rd value = record { rd = shown_register rd value; st = None; dv = None; vl = None }
 
@@ -138,14 +149,181 @@ stores_byte hart ram at value =
 abbrev pub pc_after : Hart → ℕ → ℕ
 pc_after hart len = (hart.pc + len) % 2 ^ 64
 
+-- ---- the effect of each class of instructions, whose word has len bytes, on a hart and the memory
+
+-- nothing but the pc changes
+abbrev pub passes : ℕ → Hart → List ℕ → Outcome
+passes len hart ram = Carried (record { hart = record hart { pc = pc_after hart len }; ram = ram; done = shows_nothing; access = Untouched })
+
+-- rd gets a value
+abbrev pub gives : ℕ → ℕ → ℕ → Hart → List ℕ → Outcome
+gives value len rd hart ram = writes hart ram rd value (pc_after hart len)
+
+-- rd gets the value of an operation: on a register and an immediate, on a register and a shift amount, and
+-- on two registers (Unprivileged ISA, "Integer Computational Instructions" of RV32I and RV64I)
+abbrev pub computes_immediate : BinOp → ℕ → ℕ → ℕ → ℤ → Hart → List ℕ → Outcome
+computes_immediate op len rd rs1 imm hart ram = gives (alu_of op (register hart rs1) (modulo 64 imm)) len rd hart ram
+
+abbrev pub computes_shift : BinOp → ℕ → ℕ → ℕ → ℕ → Hart → List ℕ → Outcome
+computes_shift op len rd rs1 shamt hart ram = gives (alu_of op (register hart rs1) shamt) len rd hart ram
+
+abbrev pub computes : BinOp → ℕ → ℕ → ℕ → ℕ → Hart → List ℕ → Outcome
+computes op len rd rs1 rs2 hart ram = gives (alu_of op (register hart rs1) (register hart rs2)) len rd hart ram
+
+-- rd gets a product, quotient or remainder of two registers (Unprivileged ISA, "M" extension)
+abbrev pub multiplies : MulOp → ℕ → ℕ → ℕ → ℕ → Hart → List ℕ → Outcome
+multiplies op len rd rs1 rs2 hart ram = gives (mul_div_of op (register hart rs1) (register hart rs2)) len rd hart ram
+
+-- rd gets the address of the next instruction, and the pc is the target (Unprivileged ISA, "Unconditional Jumps")
+abbrev pub jumps : ℕ → ℕ → ℕ → Hart → List ℕ → Outcome
+jumps target len rd hart ram = writes hart ram rd (pc_after hart len) target
+
+-- a number with its bit 0 cleared
+abbrev pub even_part : ℕ → ℕ
+even_part n = n - n % 2
+
+-- the pc is the target where the condition holds for two registers (Unprivileged ISA, "Conditional Branches")
+abbrev pub next_of : CondOp → ℕ → ℕ → ℕ → ℤ → Hart → ℕ
+next_of op len rs1 rs2 imm hart =
+    if is_taken op (register hart rs1) (register hart rs2) then offset_by hart.pc imm else pc_after hart len
+
+abbrev pub branches : CondOp → ℕ → ℕ → ℕ → ℤ → Hart → List ℕ → Outcome
+branches op len rs1 rs2 imm hart ram =
+    Carried (record { hart = record hart { pc = next_of op len rs1 rs2 imm hart }; ram = ram; done = shows_nothing; access = Untouched })
+
+-- whether the size bytes from an address are naturally aligned and all lie in memory: other loads and stores
+-- are not built, but for the store of a byte to the console's data register
+abbrev pub reaches : List ℕ → ℕ → ℕ → Bool
+reaches ram at size = holds_bytes ram at size && at % size == 0
+
+-- the register's value of size loaded bytes: with their sign, or with zeros above
+abbrev pub extended_by : Extension → ℕ → ℕ → ℕ
+extended_by Extension.Signed size value = sign_extended value (8 * size)
+extended_by Extension.Unsigned size value = value
+
+-- rd gets the size bytes at rs1 + imm (Unprivileged ISA, "Load and Store Instructions" of RV32I and RV64I)
+abbrev pub loads_at : ℕ → Extension → ℕ → ℕ → ℕ → Hart → List ℕ → Outcome
+loads_at size extension at len rd hart ram =
+    if reaches ram at size then gives (extended_by extension size (number_at ram at size)) len rd hart ram else Unbuilt
+
+abbrev pub loads : ℕ → Extension → ℕ → ℕ → ℕ → ℤ → Hart → List ℕ → Outcome
+loads size extension len rd rs1 imm hart ram = loads_at size extension (offset_by (register hart rs1) imm) len rd hart ram
+
+-- the low size bytes of rs2 are stored at rs1 + imm
+abbrev pub low_bytes : ℕ → ℕ → ℕ
+low_bytes size value = value % 2 ^ (8 * size)
+
+abbrev pub stores_at : ℕ → ℕ → ℕ → ℕ → Hart → List ℕ → Outcome
+stores_at size at value len hart ram =
+    if reaches ram at size
+    then Carried (record { hart = record hart { pc = pc_after hart len }; ram = with_part ram at (little_bytes size value); done = shows_store at size (low_bytes size value); access = Untouched })
+    else Unbuilt
+
+abbrev pub stores : ℕ → ℕ → ℕ → ℕ → ℤ → Hart → List ℕ → Outcome
+stores size len rs1 rs2 imm hart ram = stores_at size (offset_by (register hart rs1) imm) (register hart rs2) len hart ram
+
 -- the effect of an instruction, whose word has len bytes, on a hart and the memory
 unfoldable pub effect : Given → ℕ → Insn → Hart → List ℕ → Outcome
-effect given len (Lui rd imm) hart ram = writes hart ram rd (modulo 64 imm) (pc_after hart len)
-effect given len (Jal rd imm) hart ram = writes hart ram rd (pc_after hart len) (offset_by hart.pc imm)
-effect given len (Addi rd rs1 imm) hart ram =
-    writes hart ram rd (alu_of operations.Add (register hart rs1) (modulo 64 imm)) (pc_after hart len)
-effect given len (Sb rs1 rs2 imm) hart ram =
+effect given len (Insn.Lui rd imm) hart ram = gives (modulo 64 imm) len rd hart ram
+effect given len (Insn.Auipc rd imm) hart ram = gives (offset_by hart.pc imm) len rd hart ram
+effect given len (Insn.Jal rd imm) hart ram = jumps (offset_by hart.pc imm) len rd hart ram
+effect given len (Insn.Jalr rd rs1 imm) hart ram = jumps (even_part (offset_by (register hart rs1) imm)) len rd hart ram
+effect given len (Insn.Beq rs1 rs2 imm) hart ram = branches CondOp.Eq len rs1 rs2 imm hart ram
+effect given len (Insn.Bne rs1 rs2 imm) hart ram = branches CondOp.Ne len rs1 rs2 imm hart ram
+effect given len (Insn.Blt rs1 rs2 imm) hart ram = branches CondOp.Lt len rs1 rs2 imm hart ram
+effect given len (Insn.Bge rs1 rs2 imm) hart ram = branches CondOp.Ge len rs1 rs2 imm hart ram
+effect given len (Insn.Bltu rs1 rs2 imm) hart ram = branches CondOp.Ltu len rs1 rs2 imm hart ram
+effect given len (Insn.Bgeu rs1 rs2 imm) hart ram = branches CondOp.Geu len rs1 rs2 imm hart ram
+effect given len (Insn.Lb rd rs1 imm) hart ram = loads 1 Extension.Signed len rd rs1 imm hart ram
+effect given len (Insn.Lh rd rs1 imm) hart ram = loads 2 Extension.Signed len rd rs1 imm hart ram
+effect given len (Insn.Lw rd rs1 imm) hart ram = loads 4 Extension.Signed len rd rs1 imm hart ram
+effect given len (Insn.Ld rd rs1 imm) hart ram = loads 8 Extension.Signed len rd rs1 imm hart ram
+effect given len (Insn.Lbu rd rs1 imm) hart ram = loads 1 Extension.Unsigned len rd rs1 imm hart ram
+effect given len (Insn.Lhu rd rs1 imm) hart ram = loads 2 Extension.Unsigned len rd rs1 imm hart ram
+effect given len (Insn.Lwu rd rs1 imm) hart ram = loads 4 Extension.Unsigned len rd rs1 imm hart ram
+effect given len (Insn.Sb rs1 rs2 imm) hart ram =
     stores_byte (record hart { pc = pc_after hart len }) ram (offset_by (register hart rs1) imm) (register hart rs2)
+effect given len (Insn.Sh rs1 rs2 imm) hart ram = stores 2 len rs1 rs2 imm hart ram
+effect given len (Insn.Sw rs1 rs2 imm) hart ram = stores 4 len rs1 rs2 imm hart ram
+effect given len (Insn.Sd rs1 rs2 imm) hart ram = stores 8 len rs1 rs2 imm hart ram
+effect given len (Insn.Addi rd rs1 imm) hart ram = computes_immediate BinOp.Add len rd rs1 imm hart ram
+effect given len (Insn.Slti rd rs1 imm) hart ram = computes_immediate BinOp.Slt len rd rs1 imm hart ram
+effect given len (Insn.Sltiu rd rs1 imm) hart ram = computes_immediate BinOp.Sltu len rd rs1 imm hart ram
+effect given len (Insn.Xori rd rs1 imm) hart ram = computes_immediate BinOp.Xor len rd rs1 imm hart ram
+effect given len (Insn.Ori rd rs1 imm) hart ram = computes_immediate BinOp.Or len rd rs1 imm hart ram
+effect given len (Insn.Andi rd rs1 imm) hart ram = computes_immediate BinOp.And len rd rs1 imm hart ram
+effect given len (Insn.Addiw rd rs1 imm) hart ram = computes_immediate BinOp.Addw len rd rs1 imm hart ram
+effect given len (Insn.Slli rd rs1 shamt) hart ram = computes_shift BinOp.Sll len rd rs1 shamt hart ram
+effect given len (Insn.Srli rd rs1 shamt) hart ram = computes_shift BinOp.Srl len rd rs1 shamt hart ram
+effect given len (Insn.Srai rd rs1 shamt) hart ram = computes_shift BinOp.Sra len rd rs1 shamt hart ram
+effect given len (Insn.Slliw rd rs1 shamt) hart ram = computes_shift BinOp.Sllw len rd rs1 shamt hart ram
+effect given len (Insn.Srliw rd rs1 shamt) hart ram = computes_shift BinOp.Srlw len rd rs1 shamt hart ram
+effect given len (Insn.Sraiw rd rs1 shamt) hart ram = computes_shift BinOp.Sraw len rd rs1 shamt hart ram
+effect given len (Insn.Add rd rs1 rs2) hart ram = computes BinOp.Add len rd rs1 rs2 hart ram
+effect given len (Insn.Sub rd rs1 rs2) hart ram = computes BinOp.Sub len rd rs1 rs2 hart ram
+effect given len (Insn.Sll rd rs1 rs2) hart ram = computes BinOp.Sll len rd rs1 rs2 hart ram
+effect given len (Insn.Slt rd rs1 rs2) hart ram = computes BinOp.Slt len rd rs1 rs2 hart ram
+effect given len (Insn.Sltu rd rs1 rs2) hart ram = computes BinOp.Sltu len rd rs1 rs2 hart ram
+effect given len (Insn.Xor rd rs1 rs2) hart ram = computes BinOp.Xor len rd rs1 rs2 hart ram
+effect given len (Insn.Srl rd rs1 rs2) hart ram = computes BinOp.Srl len rd rs1 rs2 hart ram
+effect given len (Insn.Sra rd rs1 rs2) hart ram = computes BinOp.Sra len rd rs1 rs2 hart ram
+effect given len (Insn.Or rd rs1 rs2) hart ram = computes BinOp.Or len rd rs1 rs2 hart ram
+effect given len (Insn.And rd rs1 rs2) hart ram = computes BinOp.And len rd rs1 rs2 hart ram
+effect given len (Insn.Addw rd rs1 rs2) hart ram = computes BinOp.Addw len rd rs1 rs2 hart ram
+effect given len (Insn.Subw rd rs1 rs2) hart ram = computes BinOp.Subw len rd rs1 rs2 hart ram
+effect given len (Insn.Sllw rd rs1 rs2) hart ram = computes BinOp.Sllw len rd rs1 rs2 hart ram
+effect given len (Insn.Srlw rd rs1 rs2) hart ram = computes BinOp.Srlw len rd rs1 rs2 hart ram
+effect given len (Insn.Sraw rd rs1 rs2) hart ram = computes BinOp.Sraw len rd rs1 rs2 hart ram
+effect given len (Insn.Mul rd rs1 rs2) hart ram = multiplies MulOp.Mul len rd rs1 rs2 hart ram
+effect given len (Insn.Mulh rd rs1 rs2) hart ram = multiplies MulOp.Mulh len rd rs1 rs2 hart ram
+effect given len (Insn.Mulhsu rd rs1 rs2) hart ram = multiplies MulOp.Mulhsu len rd rs1 rs2 hart ram
+effect given len (Insn.Mulhu rd rs1 rs2) hart ram = multiplies MulOp.Mulhu len rd rs1 rs2 hart ram
+effect given len (Insn.Div rd rs1 rs2) hart ram = multiplies MulOp.Div len rd rs1 rs2 hart ram
+effect given len (Insn.Divu rd rs1 rs2) hart ram = multiplies MulOp.Divu len rd rs1 rs2 hart ram
+effect given len (Insn.Rem rd rs1 rs2) hart ram = multiplies MulOp.Rem len rd rs1 rs2 hart ram
+effect given len (Insn.Remu rd rs1 rs2) hart ram = multiplies MulOp.Remu len rd rs1 rs2 hart ram
+effect given len (Insn.Mulw rd rs1 rs2) hart ram = multiplies MulOp.Mulw len rd rs1 rs2 hart ram
+effect given len (Insn.Divw rd rs1 rs2) hart ram = multiplies MulOp.Divw len rd rs1 rs2 hart ram
+effect given len (Insn.Divuw rd rs1 rs2) hart ram = multiplies MulOp.Divuw len rd rs1 rs2 hart ram
+effect given len (Insn.Remw rd rs1 rs2) hart ram = multiplies MulOp.Remw len rd rs1 rs2 hart ram
+effect given len (Insn.Remuw rd rs1 rs2) hart ram = multiplies MulOp.Remuw len rd rs1 rs2 hart ram
+effect given len Insn.Fence hart ram = passes len hart ram
+effect given len Insn.FenceI hart ram = passes len hart ram
+effect given len (Insn.Csrrw rd rs1 csr) hart ram = Unbuilt
+effect given len (Insn.Csrrs rd rs1 csr) hart ram = Unbuilt
+effect given len (Insn.Csrrc rd rs1 csr) hart ram = Unbuilt
+effect given len (Insn.Csrrwi rd uimm csr) hart ram = Unbuilt
+effect given len (Insn.Csrrsi rd uimm csr) hart ram = Unbuilt
+effect given len (Insn.Csrrci rd uimm csr) hart ram = Unbuilt
+effect given len Insn.Ecall hart ram = Unbuilt
+effect given len Insn.Ebreak hart ram = Unbuilt
+effect given len Insn.Sret hart ram = Unbuilt
+effect given len Insn.Mret hart ram = Unbuilt
+effect given len Insn.Wfi hart ram = Unbuilt
+effect given len Insn.Dret hart ram = Unbuilt
+effect given len (Insn.SfenceVma rs1 rs2) hart ram = Unbuilt
+effect given len (Insn.LrW rd rs1) hart ram = Unbuilt
+effect given len (Insn.LrD rd rs1) hart ram = Unbuilt
+effect given len (Insn.ScW rd rs1 rs2) hart ram = Unbuilt
+effect given len (Insn.AmoswapW rd rs1 rs2) hart ram = Unbuilt
+effect given len (Insn.AmoaddW rd rs1 rs2) hart ram = Unbuilt
+effect given len (Insn.AmoxorW rd rs1 rs2) hart ram = Unbuilt
+effect given len (Insn.AmoandW rd rs1 rs2) hart ram = Unbuilt
+effect given len (Insn.AmoorW rd rs1 rs2) hart ram = Unbuilt
+effect given len (Insn.AmominW rd rs1 rs2) hart ram = Unbuilt
+effect given len (Insn.AmomaxW rd rs1 rs2) hart ram = Unbuilt
+effect given len (Insn.AmominuW rd rs1 rs2) hart ram = Unbuilt
+effect given len (Insn.AmomaxuW rd rs1 rs2) hart ram = Unbuilt
+effect given len (Insn.ScD rd rs1 rs2) hart ram = Unbuilt
+effect given len (Insn.AmoswapD rd rs1 rs2) hart ram = Unbuilt
+effect given len (Insn.AmoaddD rd rs1 rs2) hart ram = Unbuilt
+effect given len (Insn.AmoxorD rd rs1 rs2) hart ram = Unbuilt
+effect given len (Insn.AmoandD rd rs1 rs2) hart ram = Unbuilt
+effect given len (Insn.AmoorD rd rs1 rs2) hart ram = Unbuilt
+effect given len (Insn.AmominD rd rs1 rs2) hart ram = Unbuilt
+effect given len (Insn.AmomaxD rd rs1 rs2) hart ram = Unbuilt
+effect given len (Insn.AmominuD rd rs1 rs2) hart ram = Unbuilt
+effect given len (Insn.AmomaxuD rd rs1 rs2) hart ram = Unbuilt
 
 -- ---- the step
 
@@ -178,7 +356,7 @@ answer_to core h hart word (Carried e) = record {
   core = record core { harts = slice_set core.harts h e.hart; ram = e.ram };
 }
 answer_to core h hart word Unbuilt = record {
-  event = event_of h hart word (record { rd = None; st = None; dv = None; vl = None });
+  event = event_of h hart word shows_nothing;
   access = Untouched;
   core = core;
 }

@@ -5,10 +5,9 @@ ghost use Rattle.hart_step.specs.Harts.{IsFitHart, hart_of, reset_core};
 ghost use Rattle.hart_step.specs.Step.{IsBuilt, Shows, after_access, attempt, not_built, nothing_given, step, unbuilt_of};
 
 use crate::answers::Answers;
-use crate::decode::decode_fetched;
 use crate::event::Event;
 use crate::execute::{execute, is_built};
-use crate::fetch::{Fetched, fetch};
+use crate::fetch::{Fetched, decode_fetched, fetch};
 use crate::hart::{Hart, privilege};
 use guest_ram::GuestRam;
 use std::alloc::{AllocError, Global};

@@ -1,9 +1,11 @@
-// The fetch of one instruction's parcels.
+// The fetch of one instruction's parcels, and its decoding.
 
-ghost use Rattle.std.specs.Prelude.{◌≡◌, ◌%◌, ◌<◌, ◌^◌};
-ghost use Rattle.hart_step.specs.Step.{fetched, HasEvenLength};
+ghost use Rattle.std.specs.Prelude.{◌≡◌, ◌%◌, ◌<◌, ◌^◌, IfSome};
+ghost use Rattle.rv_decode.specs.Ranges.{IsInRange};
+ghost use Rattle.hart_step.specs.Step.{HasEvenLength, HasZerosAbove, decoded, fetched};
 
 use guest_ram::GuestRam;
+use rv_decode::{Insn, decode, expand};
 
 /// What a fetch gives: the instruction's word, a 16-bit one with zeros above, and its length in
 /// bytes; or the exception's cause and the address of the parcel that cannot be fetched.
@@ -18,6 +20,7 @@ pub(crate) fn fetch(ram: &GuestRam, pc: u64) -> Fetched
     requires { pc % 2 ≡ 0 }
     ensures word { result ≡ fetched ram.now pc }
     ensures even { HasEvenLength result }
+    ensures zeros { HasZerosAbove result }
 {
     if !ram.has(pc, 2) {
         return Fetched::Faulted { cause: 1, at: pc };
@@ -37,5 +40,18 @@ pub(crate) fn fetch(ram: &GuestRam, pc: u64) -> Fetched
     Fetched::Word {
         word: (low + 0x1_0000 * high) as u32,
         len: 4,
+    }
+}
+
+/// The instruction of a fetched word of `len` bytes, none where the word stands for none.
+pub(crate) fn decode_fetched(word: u32, len: u8) -> Option<Insn>
+    requires { len ≡ 2 → word < 2 ^ 16 }
+    ensures row { result ≡ decoded word len }
+    ensures in_range { IfSome result IsInRange }
+{
+    if len == 2 {
+        expand(word as u16)
+    } else {
+        decode(word)
     }
 }

@@ -3,12 +3,14 @@
 #![tactic(auto)]
 
 mod answers;
+mod arithmetic;
+mod control;
 mod cores;
-mod decode;
 mod event;
 mod execute;
 mod fetch;
 mod hart;
+mod memory;
 #[cfg(test)]
 mod tests;
 
