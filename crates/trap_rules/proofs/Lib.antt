@@ -1,0 +1,5 @@
+pub mod AddressLaws
+pub mod FindLaws
+pub mod BitLaws
+pub mod PickLaws
+pub mod ReturnLaws

@@ -1,0 +1,4 @@
+pub mod Status
+pub mod Entry
+pub mod Return
+pub mod Interrupt

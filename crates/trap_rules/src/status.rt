@@ -1,0 +1,123 @@
+//! The stack of privilege modes and interrupt enables in `mstatus`.
+#![tactic(auto, unfolding(crate::specs::Status::machine_stacked, crate::specs::Status::supervisor_stacked, crate::specs::Status::machine_unstacked, crate::specs::Status::supervisor_unstacked))]
+
+ghost use Rattle.std.specs.Prelude.{◌≡◌};
+ghost use Rattle.csr_file.specs.Write.{merged};
+ghost use Rattle.trap_rules.specs.Status.{bits_if, has, machine_previous, machine_stacked, machine_unstacked, mode_of, supervisor_previous, supervisor_stacked, supervisor_unstacked};
+
+use csr_file::masks::MSTATUS_MPP;
+use rv_alu::Mode;
+
+/// Interrupts are enabled in supervisor mode.
+pub(crate) const MSTATUS_SIE: u64 = 0x2;
+/// Interrupts are enabled in machine mode.
+pub(crate) const MSTATUS_MIE: u64 = 0x8;
+/// SIE before the trap.
+const MSTATUS_SPIE: u64 = 0x20;
+/// MIE before the trap.
+const MSTATUS_MPIE: u64 = 0x80;
+/// The mode before the trap into supervisor mode.
+const MSTATUS_SPP: u64 = 0x100;
+/// Loads and stores go by the mode in MPP.
+const MSTATUS_MPRV: u64 = 0x2_0000;
+
+/// Whether the word has a bit of the mask.
+pub(crate) fn has(word: u64, mask: u64) -> bool
+    ensures { result ≡ has word mask }
+{
+    word & mask != 0
+}
+
+/// The mask where the test holds, else no bits.
+fn bits_if(test: bool, mask: u64) -> u64
+    ensures { result ≡ bits_if test mask }
+{
+    if test { mask } else { 0 }
+}
+
+/// `old` with the bits of `mask` taken from `v`.
+fn merge(mask: u64, old: u64, v: u64) -> u64
+    ensures { result ≡ merged mask old v }
+{
+    old & !mask | v & mask
+}
+
+/// The mode of a number in the fields MPP and prv.
+pub(crate) fn mode_of(number: u64) -> Mode
+    ensures { result ≡ mode_of number }
+{
+    match number {
+        3 => Mode::M,
+        1 => Mode::S,
+        _ => Mode::U,
+    }
+}
+
+/// The mode to which `mret` returns.
+pub(crate) fn machine_previous(status: u64) -> Mode
+    ensures { result ≡ machine_previous status }
+{
+    mode_of(status >> 11 & 3)
+}
+
+/// The mode to which `sret` returns.
+pub(crate) fn supervisor_previous(status: u64) -> Mode
+    ensures { result ≡ supervisor_previous status }
+{
+    if has(status, MSTATUS_SPP) {
+        Mode::S
+    } else {
+        Mode::U
+    }
+}
+
+/// `mstatus` after entry to machine mode.
+pub(crate) fn machine_stacked(mode: Mode, status: u64) -> u64
+    ensures { result ≡ machine_stacked mode status }
+{
+    let enabled = bits_if(has(status, MSTATUS_MIE), MSTATUS_MPIE);
+    let from = (mode as u64) << 11;
+    merge(
+        MSTATUS_MIE + MSTATUS_MPIE + MSTATUS_MPP,
+        status,
+        enabled + from,
+    )
+}
+
+/// `mstatus` after entry to supervisor mode.
+pub(crate) fn supervisor_stacked(mode: Mode, status: u64) -> u64
+    ensures { result ≡ supervisor_stacked mode status }
+{
+    let enabled = bits_if(has(status, MSTATUS_SIE), MSTATUS_SPIE);
+    let from = bits_if(mode == Mode::S, MSTATUS_SPP);
+    merge(
+        MSTATUS_SIE + MSTATUS_SPIE + MSTATUS_SPP,
+        status,
+        enabled + from,
+    )
+}
+
+/// `mstatus` after `mret`.
+pub(crate) fn machine_unstacked(status: u64) -> u64
+    ensures { result ≡ machine_unstacked status }
+{
+    let cleared = bits_if(machine_previous(status) != Mode::M, MSTATUS_MPRV);
+    let enabled = bits_if(has(status, MSTATUS_MPIE), MSTATUS_MIE);
+    merge(
+        MSTATUS_MIE + MSTATUS_MPIE + MSTATUS_MPP + cleared,
+        status,
+        enabled + MSTATUS_MPIE,
+    )
+}
+
+/// `mstatus` after `sret`.
+pub(crate) fn supervisor_unstacked(status: u64) -> u64
+    ensures { result ≡ supervisor_unstacked status }
+{
+    let enabled = bits_if(has(status, MSTATUS_SPIE), MSTATUS_SIE);
+    merge(
+        MSTATUS_SIE + MSTATUS_SPIE + MSTATUS_SPP + MSTATUS_MPRV,
+        status,
+        enabled + MSTATUS_SPIE,
+    )
+}
