@@ -1,0 +1,4 @@
+pub mod Access
+pub mod Layout
+pub mod Output
+pub mod State

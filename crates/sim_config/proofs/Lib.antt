@@ -1,0 +1,5 @@
+pub mod KeyLemmas
+pub mod ReadLemmas
+pub mod RangeLemmas
+pub mod WriteLemmas
+pub mod OrderLemmas
