@@ -19,7 +19,7 @@ use Rattle.sim_config.specs.Faults.{number_at, number_in, text_in, members_fault
 abbrev pub most_bytes : ℕ
 most_bytes = 65536
 
--- the JSON value that the bytes are, where they are UTF-8 and nest at most 127 deep
+-- the JSON value (RFC 8259) that the bytes are, where they are UTF-8 and nest at most 127 deep
 unfoldable pub reading : List ℕ → Option Data
 reading text = if is_utf8 text then read text else None
 

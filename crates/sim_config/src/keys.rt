@@ -2,7 +2,7 @@
 
 ghost use Rattle.std.specs.Prelude.{◌≡◌};
 ghost use Rattle.sim_config.specs.Keys.{name_of, rule_of};
-ghost use Rattle.sim_config.specs.Faults.{is_listed as listed, is_listing};
+ghost use Rattle.sim_config.specs.Faults as faults;
 
 /// A key of a text, or the text's value as a whole.
 #[derive(Clone, Copy, Debug, PartialEq, Eq)]
@@ -128,7 +128,7 @@ impl Key {
 
 /// Whether a text of this form may have a key of this name.
 pub(crate) fn is_listed(form: Form, name: &str) -> bool
-    ensures { result ≡ listed form name.now }
+    ensures { result ≡ faults.is_listed form name.now }
 {
     ORDER
         .iter()
@@ -138,7 +138,7 @@ pub(crate) fn is_listed(form: Form, name: &str) -> bool
 impl Rule {
     /// Whether the key is listed.
     fn lists(self) -> bool
-        ensures { result ≡ is_listing self }
+        ensures { result ≡ faults.is_listing self }
     {
         match self {
             Rule::Unlisted => false,

@@ -2,7 +2,7 @@
 
 ghost use Rattle.std.specs.Prelude.{◌≡◌, option_map, string_bytes, IfSome};
 ghost use Rattle.serde_json.specs.View.{view, members_view};
-ghost use Rattle.sim_config.specs.Faults.{number_at as numbers, value_at, number_in as given_number, text_in as given_text, is_within as within, is_pages as pages, is_window as window, range_fault as of_range, value_fault as of_value, key_fault as of_key, keys_fault as of_keys, first_unlisted as unlisted, IsLeastUnlisted};
+ghost use Rattle.sim_config.specs.Faults as faults;
 ghost use Rattle.sim_config.specs.Keys.{key_order};
 ghost use Rattle.sim_config.specs.Reading.{members_of};
 
@@ -15,28 +15,28 @@ const RAM_BASE: u64 = 0x8000_0000;
 
 /// What stands at the key.
 fn value_at(value: &Value, key: Key) -> Option<&Value>
-    ensures { option_map (λ found. view found.now) result ≡ value_at key (members_of (view value.now)) }
+    ensures { option_map (λ found. view found.now) result ≡ faults.value_at key (members_of (view value.now)) }
 {
     value.get(key.name())
 }
 
 /// The number at the key, where a number stands there.
 pub(crate) fn number_at(value: &Value, key: Key) -> Option<u64>
-    ensures { result ≡ numbers key (members_of (view value.now)) }
+    ensures { result ≡ faults.number_at key (members_of (view value.now)) }
 {
     value_at(value, key).and_then(Value::as_u64)
 }
 
 /// That number, and 0 where there is none.
 pub(crate) fn number_in(value: &Value, key: Key) -> u64
-    ensures { result ≡ given_number key (members_of (view value.now)) }
+    ensures { result ≡ faults.number_in key (members_of (view value.now)) }
 {
     number_at(value, key).unwrap_or(0)
 }
 
 /// The text at the key, and the empty one where there is none.
 pub(crate) fn text_in(value: &Value, key: Key) -> &str
-    ensures { result.now ≡ given_text key (members_of (view value.now)) }
+    ensures { result.now ≡ faults.text_in key (members_of (view value.now)) }
 {
     match value_at(value, key).and_then(Value::as_str) {
         Some(text) => text,
@@ -46,28 +46,28 @@ pub(crate) fn text_in(value: &Value, key: Key) -> &str
 
 /// Whether the number is from `least` to `most`.
 fn is_within(least: u64, most: u64, n: u64) -> bool
-    ensures { result ≡ within least most n }
+    ensures { result ≡ faults.is_within least most n }
 {
     least <= n && n <= most
 }
 
 /// Whether the number is from `least` to `most`, and a multiple of 4,096.
 fn is_pages(least: u64, most: u64, n: u64) -> bool
-    ensures { result ≡ pages least most n }
+    ensures { result ≡ faults.is_pages least most n }
 {
     is_within(least, most, n) && n % 4_096 == 0
 }
 
 /// Whether the number is 0, or a multiple of 8 whose 8 bytes lie in RAM of `ram` bytes.
 fn is_window(ram: u64, n: u64) -> bool
-    ensures { result ≡ window ram n }
+    ensures { result ≡ faults.is_window ram n }
 {
     n == 0 || (n % 8 == 0 && RAM_BASE <= n && n - RAM_BASE + 8 <= ram)
 }
 
 /// The fault of a value that has the wrong kind, is in its range, or is not.
 fn range_fault(key: Key, in_range: Option<bool>) -> Option<ConfigFault>
-    ensures { result ≡ of_range key in_range }
+    ensures { result ≡ faults.range_fault key in_range }
 {
     match in_range {
         None => Some(ConfigFault::WrongKind(key)),
@@ -78,7 +78,7 @@ fn range_fault(key: Key, in_range: Option<bool>) -> Option<ConfigFault>
 
 /// The fault of a value that stands at the key, where RAM has `ram` bytes.
 fn value_fault(key: Key, kind: Kind, ram: u64, found: &Value) -> Option<ConfigFault>
-    ensures { result ≡ of_value key kind ram (view found.now) }
+    ensures { result ≡ faults.value_fault key kind ram (view found.now) }
 {
     let in_range = match kind {
         Kind::Number(least, most) => found.as_u64().map(|n| is_within(least, most, n)),
@@ -91,7 +91,7 @@ fn value_fault(key: Key, kind: Kind, ram: u64, found: &Value) -> Option<ConfigFa
 
 /// The fault of what stands at the key, or of its absence.
 fn key_fault(form: Form, value: &Value, key: Key) -> Option<ConfigFault>
-    ensures { result ≡ of_key form (members_of (view value.now)) key }
+    ensures { result ≡ faults.key_fault form (members_of (view value.now)) key }
 {
     let ram = number_in(value, Key::Ram);
     match (key.rule(form), value_at(value, key)) {
@@ -105,7 +105,7 @@ fn key_fault(form: Form, value: &Value, key: Key) -> Option<ConfigFault>
 
 /// The first fault of the keys.
 pub(crate) fn keys_fault(form: Form, value: &Value) -> Option<ConfigFault>
-    ensures { result ≡ of_keys form (members_of (view value.now)) key_order }
+    ensures { result ≡ faults.keys_fault form (members_of (view value.now)) key_order }
 {
     for key in ORDER {
         if let Some(fault) = key_fault(form, value, key) {
@@ -117,8 +117,8 @@ pub(crate) fn keys_fault(form: Form, value: &Value) -> Option<ConfigFault>
 
 /// The first key that is not listed.
 pub(crate) fn first_unlisted(form: Form, members: &Map<String, Value>) -> Option<&String>
-    ensures first { option_map (λ name. string_bytes name.now) result ≡ unlisted form (members_view members.now.entries) }
-    ensures least { IfSome result (λ name. IsLeastUnlisted form (members_view members.now.entries) (string_bytes name.now)) }
+    ensures first { option_map (λ name. string_bytes name.now) result ≡ faults.first_unlisted form (members_view members.now.entries) }
+    ensures least { IfSome result (λ name. faults.IsLeastUnlisted form (members_view members.now.entries) (string_bytes name.now)) }
 {
     members.keys().find(|name| !is_listed(form, name.as_str()))
 }

@@ -64,7 +64,7 @@ fn read_checked(alloc: Global, form: Form, text: &[u8]) -> Result<Value, ConfigF
     Ok(value)
 }
 
-/// Reads a configuration: its values, or its first fault.
+/// Reads a configuration, which is JSON (RFC 8259): its values, or its first fault.
 pub fn read_config(alloc: Global, text: &[u8]) -> Result<Config, ConfigFault>
     ensures ok { IfOk result (λ config. config_of text.now ≡ Ok config) }
     ensures err { IfErr result (λ fault. fault ≢ NoMemory → config_of text.now ≡ Err fault) }
@@ -81,7 +81,7 @@ pub fn read_config(alloc: Global, text: &[u8]) -> Result<Config, ConfigFault>
     })
 }
 
-/// Reads a meta text: its values, or its first fault.
+/// Reads a meta text, which is JSON (RFC 8259): its values, or its first fault.
 pub fn read_meta(alloc: Global, text: &[u8]) -> Result<Meta, ConfigFault>
     ensures ok { IfOk result (λ meta. meta_of text.now ≡ Ok meta) }
     ensures err { IfErr result (λ fault. fault ≢ NoMemory → meta_of text.now ≡ Err fault) }

@@ -14,7 +14,7 @@ use std::alloc::{AllocError, Global};
 /// The allocator has no room for the text.
 pub type NoMemory = AllocError;
 
-/// The meta text of these values: compact JSON with the keys in the order of their bytes and no
+/// The meta text of these values: compact JSON (RFC 8259) with the keys in the order of their bytes and no
 /// newline. Where the values are in their ranges, reading it gives them back.
 pub fn meta_text(alloc: Global, meta: &Meta) -> Result<Vec<u8>, NoMemory>
     requires { meta.now.version ≡ 1 }
