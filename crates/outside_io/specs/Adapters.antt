@@ -27,3 +27,7 @@ dir_files_runtime files = files.runtime
 -- its count of reading faults
 abbrev pub dir_files_read_faults : {R : Type 0} → DirFiles R → ℕ
 dir_files_read_faults files = files.read_faults
+
+-- its count of writing faults
+abbrev pub dir_files_write_faults : {R : Type 0} → DirFiles R → ℕ
+dir_files_write_faults files = files.write_faults

@@ -1,7 +1,8 @@
 -- What an object in memory holds: its bytes or files, its calls and its counts of faults.
-use Rattle.std.specs.Prelude.{ℕ, List, drop, Option}
+use Rattle.std.specs.Prelude.{ℕ, List, drop}
 use Rattle.std.specs.Option.{option_map}
 use Rattle.std.specs.BTreeMap.{get_by_text}
+use Rattle.outside_io.specs.Content.{Held}
 use Rattle.outside_io.specs.declared.calls.Calls.{Calls}
 use Rattle.outside_io.specs.declared.memory.MemSource.{MemSource}
 use Rattle.outside_io.specs.declared.memory.MemSink.{MemSink}
@@ -32,7 +33,7 @@ abbrev pub sink_faults : MemSink → ℕ
 sink_faults sink = sink.faults
 
 -- from a name's bytes to what the file of that name holds
-abbrev pub files_held : MemFiles → List ℕ → Option (List ℕ)
+abbrev pub files_held : MemFiles → Held
 files_held files name = option_map (λ bytes. bytes.items) (get_by_text files.files name)
 
 -- their calls
@@ -42,3 +43,7 @@ files_calls files = files.calls
 -- their count of reading faults
 abbrev pub files_read_faults : MemFiles → ℕ
 files_read_faults files = files.read_faults
+
+-- their count of writing faults
+abbrev pub files_write_faults : MemFiles → ℕ
+files_write_faults files = files.write_faults

@@ -5,12 +5,12 @@ ghost use Rattle.std.specs.Io.KnownBytes.{ReadConsumes, Appends};
 ghost use Rattle.outside_io.specs.declared.OutFault.TheVariants.{Failed, NoMemory};
 ghost use Rattle.outside_io.specs.Causes.{HasCause, CountsFailed};
 ghost use Rattle.outside_io.specs.Content.{Told};
-ghost use Rattle.outside_io.specs.Adapters.{std_source_reader, std_source_faults, std_sink_writer, std_sink_faults, dir_files_runtime, dir_files_read_faults};
+ghost use Rattle.outside_io.specs.Adapters.{std_source_reader, std_source_faults, std_sink_writer, std_sink_faults, dir_files_runtime, dir_files_read_faults, dir_files_write_faults};
 
 use crate::calls::count_fault;
 use crate::streams::{fill, read_once, write_whole};
 use crate::{Files, OutFault, Sink, Source};
-use std::fs::OpenFile;
+use std::fs::{OpenFile, OpenOptions};
 use std::io::{ErrorKind, Read, Seek, SeekFrom, Write};
 use std::rt::Files as FileAccess;
 use std::{fs, io};
@@ -34,7 +34,8 @@ pub struct StdSink<W> {
 #[derive(Drop)]
 pub struct DirFiles<R> {
     runtime: R,
-    read_faults: u64,
+    pub(crate) read_faults: u64,
+    pub(crate) write_faults: u64,
 }
 
 impl<R: Read + Drop> StdSource<R> {
@@ -123,15 +124,29 @@ fn read_file<R: FileAccess>(runtime: &R, path: &str, at: u64, buf: &mut [u8]) ->
     fill(&mut file, buf)
 }
 
+// Makes a file where there is none, and empties it.
+fn start_file<R: FileAccess>(runtime: &R, path: &str) -> io::Result<()> {
+    fs::create(runtime, path)?;
+    Ok(())
+}
+
+// Writes the whole piece at the end of a file that is there.
+fn append_to_file<R: FileAccess>(runtime: &R, path: &str, piece: &[u8]) -> io::Result<()> {
+    let mut file = OpenOptions::new().append(true).open(runtime, path)?;
+    write_whole(&mut file, piece)
+}
+
 impl<R: FileAccess + Drop> DirFiles<R> {
     /// The files that this file access reaches.
     pub fn new(runtime: R) -> Self
         ensures runtime { dir_files_runtime result ≡ runtime }
-        ensures count { dir_files_read_faults result ≡ 0 }
+        ensures read_count { dir_files_read_faults result ≡ 0 }
+        ensures write_count { dir_files_write_faults result ≡ 0 }
     {
         DirFiles {
             runtime,
             read_faults: 0,
+            write_faults: 0,
         }
     }
 }
@@ -141,11 +156,14 @@ impl<R: FileAccess + Drop> Files for DirFiles<R> {
 
     ghost read_faults = { dir_files_read_faults };
 
+    ghost write_faults = { dir_files_write_faults };
+
     /// The length that the system gives for the file. Each error of the system is a fault.
     fn size(&mut self, name: &str) -> Result<u64, OutFault>
         ensures cause { HasCause (dir_files_read_faults self.old) (dir_files_read_faults self.new) result }
         ensures never_starved { IsErrOf result NoMemory → ⊥ }
         ensures count { CountsFailed (dir_files_read_faults self.old) (dir_files_read_faults self.new) result }
+        ensures other_count { dir_files_write_faults self.new ≡ dir_files_write_faults self.old }
     {
         match file_size(&self.runtime, name) {
             Ok(size) => Ok(size),
@@ -160,10 +178,40 @@ impl<R: FileAccess + Drop> Files for DirFiles<R> {
         ensures cause { HasCause (dir_files_read_faults self.old) (dir_files_read_faults self.new) result }
         ensures never_starved { IsErrOf result NoMemory → ⊥ }
         ensures count { CountsFailed (dir_files_read_faults self.old) (dir_files_read_faults self.new) result }
+        ensures other_count { dir_files_write_faults self.new ≡ dir_files_write_faults self.old }
     {
         match read_file(&self.runtime, name, at, buf) {
             Ok(count) => Ok(count),
             Err(_) => Err(count_fault(&mut self.read_faults)),
+        }
+    }
+
+    /// Makes the file, in a folder that is there, and empties it. Each error of the system is a
+    /// fault.
+    fn start(&mut self, name: &str) -> Result<(), OutFault>
+        ensures cause { HasCause (dir_files_write_faults self.old) (dir_files_write_faults self.new) result }
+        ensures never_starved { IsErrOf result NoMemory → ⊥ }
+        ensures count { CountsFailed (dir_files_write_faults self.old) (dir_files_write_faults self.new) result }
+        ensures other_count { dir_files_read_faults self.new ≡ dir_files_read_faults self.old }
+    {
+        match start_file(&self.runtime, name) {
+            Ok(()) => Ok(()),
+            Err(_) => Err(count_fault(&mut self.write_faults)),
+        }
+    }
+
+    /// Opens the file, which has to be there, and writes at its end until the whole piece is
+    /// written. Each error of the system is a fault, but that of a signal, after which it writes
+    /// on. A write that takes nothing of what is left is a fault too.
+    fn append(&mut self, name: &str, piece: &[u8]) -> Result<(), OutFault>
+        ensures cause { HasCause (dir_files_write_faults self.old) (dir_files_write_faults self.new) result }
+        ensures never_starved { IsErrOf result NoMemory → ⊥ }
+        ensures count { CountsFailed (dir_files_write_faults self.old) (dir_files_write_faults self.new) result }
+        ensures other_count { dir_files_read_faults self.new ≡ dir_files_read_faults self.old }
+    {
+        match append_to_file(&self.runtime, name, piece) {
+            Ok(()) => Ok(()),
+            Err(_) => Err(count_fault(&mut self.write_faults)),
         }
     }
 }

@@ -11,7 +11,7 @@ ghost use Rattle.std.specs.Io.{ReadsAtMost};
 ghost use Rattle.std.specs.Io.KnownBytes.{ReadConsumes, Appends};
 ghost use Rattle.outside_io.specs.declared.OutFault.TheVariants.{Failed, NoMemory};
 ghost use Rattle.outside_io.specs.Causes.{HasCause};
-ghost use Rattle.outside_io.specs.Content.{Told, ReadsFrom, file_of};
+ghost use Rattle.outside_io.specs.Content.{Held, Told, ReadsFrom, file_of, IsEmptied, MayBeEmptied, GrowsBy, GrowsByPrefix, KeepsOthers};
 
 mod adapters;
 mod calls;
@@ -64,20 +64,25 @@ pub trait Sink {
         ensures cause { HasCause (faults self.old) (faults self.new) result };
 }
 
-/// Files by name, such as those of the file system. Reading changes no file.
+/// Files by name, such as those of the file system. Reading changes no file, and writing changes no
+/// file of another name. A name that is held stays held, also after a fault.
 pub trait Files {
     /// From a name's bytes to what the file of that name holds (`None` where there is none), where
     /// the object tells it.
-    ghost held: { Self → Option (List ℕ → Option (List ℕ)) };
+    ghost held: { Self → Option Held };
 
     /// How often a `size` or a `read_at` has failed; it stays at 2^64 - 1.
     ghost read_faults: { Self → ℕ };
+
+    /// How often a `start` or an `append` has failed; it stays at 2^64 - 1.
+    ghost write_faults: { Self → ℕ };
 
     /// The length of the named file in bytes. The only error is `Failed`.
     fn size(&mut self, name: &str) -> Result<u64, OutFault>
         ensures bytes { IfOk result (λ n. IfSome (held self.old) (λ files. n ≡ length (file_of files name.now))) }
         ensures content { Told (held self.old) (held self.new) (λ old new. new ≡ old) }
         ensures cause { HasCause (read_faults self.old) (read_faults self.new) result }
+        ensures other_count { write_faults self.new ≡ write_faults self.old }
         ensures never_starved { IsErrOf result NoMemory → ⊥ };
 
     /// Puts bytes of the named file, from place `at` on, into the front of `buf` and answers how
@@ -88,7 +93,27 @@ pub trait Files {
         ensures bytes { IfOk result (λ n. IfSome (held self.old) (λ files. ReadsFrom (file_of files name.now) at n buf.new)) }
         ensures content { Told (held self.old) (held self.new) (λ old new. new ≡ old) }
         ensures cause { HasCause (read_faults self.old) (read_faults self.new) result }
+        ensures other_count { write_faults self.new ≡ write_faults self.old }
         ensures never_starved { IsErrOf result NoMemory → ⊥ };
+
+    /// Makes the named file and empties it. After an error it is as before or empty. The errors are
+    /// `Failed`, and `NoMemory` of files that are kept in memory.
+    fn start(&mut self, name: &str) -> Result<(), OutFault>
+        ensures named { OnOk result (Told (held self.old) (held self.new) (IsEmptied name.now)) }
+        ensures after_error { OnErr result (Told (held self.old) (held self.new) (MayBeEmptied name.now)) }
+        ensures others { Told (held self.old) (held self.new) (KeepsOthers name.now) }
+        ensures cause { HasCause (write_faults self.old) (write_faults self.new) result }
+        ensures other_count { read_faults self.new ≡ read_faults self.old };
+
+    /// Adds the whole piece at the end of the named file. After an error a prefix of the piece was
+    /// added. Files may make a name that is not held, or fail. The errors are `Failed`, and
+    /// `NoMemory` of files that are kept in memory.
+    fn append(&mut self, name: &str, piece: &[u8]) -> Result<(), OutFault>
+        ensures named { OnOk result (Told (held self.old) (held self.new) (GrowsBy piece.now name.now)) }
+        ensures after_error { OnErr result (Told (held self.old) (held self.new) (GrowsByPrefix piece.now name.now)) }
+        ensures others { Told (held self.old) (held self.new) (KeepsOthers name.now) }
+        ensures cause { HasCause (write_faults self.old) (write_faults self.new) result }
+        ensures other_count { read_faults self.new ≡ read_faults self.old };
 }
 
 #[cfg(test)]

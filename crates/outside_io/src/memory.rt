@@ -35,7 +35,8 @@ pub struct MemFiles {
     alloc: Global,
     files: BTreeMap<String, Vec<u8>>,
     calls: Calls,
-    read_faults: u64,
+    pub(crate) read_faults: u64,
+    pub(crate) write_faults: u64,
 }
 
 /// Copies as many bytes from place `at` on as there is room for to the front of `buf`, and answers
@@ -189,19 +190,21 @@ impl Sink for MemSink {
 
 impl MemFiles {
     ghost use Rattle.outside_io.specs.Calls.{AreFresh, Lists};
-    ghost use Rattle.outside_io.specs.Memory.{files_held, files_calls, files_read_faults};
+    ghost use Rattle.outside_io.specs.Memory.{files_held, files_calls, files_read_faults, files_write_faults};
 
     /// No files, and no call that is to fail. It takes no memory.
     pub fn new(alloc: Global) -> Self
         ensures empty { (name : List ℕ) → files_held result name ≡ None }
         ensures calls { AreFresh (files_calls result) }
-        ensures count { files_read_faults result ≡ 0 }
+        ensures read_count { files_read_faults result ≡ 0 }
+        ensures write_count { files_write_faults result ≡ 0 }
     {
         MemFiles {
             alloc,
             files: BTreeMap::new(alloc),
             calls: Calls::new(alloc),
             read_faults: 0,
+            write_faults: 0,
         }
     }
 
@@ -223,7 +226,8 @@ impl MemFiles {
         ensures err { OnErr result ((other : List ℕ) → files_held self.new other ≡ files_held self.old other) }
         ensures never_failed { IsErrOf result Failed → ⊥ }
         ensures calls { files_calls self.new ≡ files_calls self.old }
-        ensures count { files_read_faults self.new ≡ files_read_faults self.old }
+        ensures read_count { files_read_faults self.new ≡ files_read_faults self.old }
+        ensures write_count { files_write_faults self.new ≡ files_write_faults self.old }
     {
         let Ok(key) = String::from_str(self.alloc, name) else {
             return Err(OutFault::NoMemory);
@@ -243,7 +247,8 @@ impl MemFiles {
         ensures err { OnErr result (Lists (files_calls self.old) (files_calls self.new) []) }
         ensures never_failed { IsErrOf result Failed → ⊥ }
         ensures files { (name : List ℕ) → files_held self.new name ≡ files_held self.old name }
-        ensures count { files_read_faults self.new ≡ files_read_faults self.old }
+        ensures read_count { files_read_faults self.new ≡ files_read_faults self.old }
+        ensures write_count { files_write_faults self.new ≡ files_write_faults self.old }
     {
         self.calls.fail_at(call)
     }
@@ -251,13 +256,15 @@ impl MemFiles {
 
 impl Files for MemFiles {
     ghost use Rattle.outside_io.specs.Causes.{HasCause, CountsFailed};
-    ghost use Rattle.outside_io.specs.Content.{ReadsFrom, Told, file_of};
+    ghost use Rattle.outside_io.specs.Content.{ReadsFrom, Told, file_of, IsEmptied, MayBeEmptied, GrowsBy, GrowsByPrefix, KeepsOthers};
     ghost use Rattle.outside_io.specs.Calls.{IsToFail, OneMore};
-    ghost use Rattle.outside_io.specs.Memory.{files_held, files_calls, files_read_faults};
+    ghost use Rattle.outside_io.specs.Memory.{files_held, files_calls, files_read_faults, files_write_faults};
 
     ghost held = { λ files. Some (files_held files) };
 
     ghost read_faults = { files_read_faults };
+
+    ghost write_faults = { files_write_faults };
 
     /// Fails exactly where the call's number is listed, or the name is not held.
     fn size(&mut self, name: &str) -> Result<u64, OutFault>
@@ -268,6 +275,7 @@ impl Files for MemFiles {
         ensures fails { IsErrOf result Failed ↔ (IsToFail (files_calls self.old) ⊎ IsNone (files_held self.old name.now)) }
         ensures calls { OneMore (files_calls self.old) (files_calls self.new) }
         ensures count { CountsFailed (files_read_faults self.old) (files_read_faults self.new) result }
+        ensures other_count { files_write_faults self.new ≡ files_write_faults self.old }
     {
         self.calls.next(&mut self.read_faults)?;
         match self.bytes(name) {
@@ -288,11 +296,53 @@ impl Files for MemFiles {
         ensures fills { IfOk result (λ n. n ≡ min (length buf.new) (length (drop at (file_of (files_held self.old) name.now)))) }
         ensures calls { OneMore (files_calls self.old) (files_calls self.new) }
         ensures count { CountsFailed (files_read_faults self.old) (files_read_faults self.new) result }
+        ensures other_count { files_write_faults self.new ≡ files_write_faults self.old }
     {
         self.calls.next(&mut self.read_faults)?;
         let Some(bytes) = self.bytes(name) else {
             return Err(count_fault(&mut self.read_faults));
         };
         Ok(copy_from(buf, bytes, at as usize))
+    }
+
+    /// Fails exactly where the call's number is listed. After an error, also where there is no
+    /// memory, nothing has changed.
+    fn start(&mut self, name: &str) -> Result<(), OutFault>
+        ensures named { OnOk result (Told (Some (files_held self.old)) (Some (files_held self.new)) (IsEmptied name.now)) }
+        ensures after_error { OnErr result (Told (Some (files_held self.old)) (Some (files_held self.new)) (MayBeEmptied name.now)) }
+        ensures others { Told (Some (files_held self.old)) (Some (files_held self.new)) (KeepsOthers name.now) }
+        ensures cause { HasCause (files_write_faults self.old) (files_write_faults self.new) result }
+        ensures other_count { files_read_faults self.new ≡ files_read_faults self.old }
+        ensures fails { IsErrOf result Failed ↔ IsToFail (files_calls self.old) }
+        ensures nothing { OnErr result ((other : List ℕ) → files_held self.new other ≡ files_held self.old other) }
+        ensures calls { OneMore (files_calls self.old) (files_calls self.new) }
+        ensures count { CountsFailed (files_write_faults self.old) (files_write_faults self.new) result }
+    {
+        self.calls.next(&mut self.write_faults)?;
+        self.put(name, b"")
+    }
+
+    /// Fails exactly where the call's number is listed, or the name is not held. After an error,
+    /// also where there is no memory for the piece, nothing has changed.
+    #[tactic(auto, using(std::proofs::lemmas::Map::Text::text_keys))]
+    fn append(&mut self, name: &str, piece: &[u8]) -> Result<(), OutFault>
+        ensures named { OnOk result (Told (Some (files_held self.old)) (Some (files_held self.new)) (GrowsBy piece.now name.now)) }
+        ensures after_error { OnErr result (Told (Some (files_held self.old)) (Some (files_held self.new)) (GrowsByPrefix piece.now name.now)) }
+        ensures others { Told (Some (files_held self.old)) (Some (files_held self.new)) (KeepsOthers name.now) }
+        ensures cause { HasCause (files_write_faults self.old) (files_write_faults self.new) result }
+        ensures other_count { files_read_faults self.new ≡ files_read_faults self.old }
+        ensures fails { IsErrOf result Failed ↔ (IsToFail (files_calls self.old) ⊎ IsNone (files_held self.old name.now)) }
+        ensures nothing { OnErr result ((other : List ℕ) → files_held self.new other ≡ files_held self.old other) }
+        ensures calls { OneMore (files_calls self.old) (files_calls self.new) }
+        ensures count { CountsFailed (files_write_faults self.old) (files_write_faults self.new) result }
+    {
+        self.calls.next(&mut self.write_faults)?;
+        let Some(content) = self.files.get_mut(name) else {
+            return Err(count_fault(&mut self.write_faults));
+        };
+        match content.extend_from_slice(piece) {
+            Ok(()) => Ok(()),
+            Err(_) => Err(OutFault::NoMemory),
+        }
     }
 }

@@ -95,6 +95,21 @@ fn expect_read_at<F: Files>(
     }
 }
 
+// A call that writes: a `start` where there is no piece, else an `append`.
+fn expect_change<F: Files>(
+    rt: &impl Abort,
+    files: &mut F,
+    name: &str,
+    piece: Option<&[u8]>,
+    want: Result<(), OutFault>,
+) {
+    let answer = match piece {
+        Some(piece) => files.append(name, piece),
+        None => files.start(name),
+    };
+    assert_eq!(rt; answer, want, "{name}");
+}
+
 #[test]
 fn a_source_in_memory_gives_its_bytes_and_fails_at_the_listed_calls(rt: HostRuntime) {
     let mut source = MemSource::new(rt.alloc());
@@ -157,6 +172,49 @@ fn files_in_memory_are_read_by_name(rt: HostRuntime) {
     assert!(rt; files.bytes("b").is_none());
 }
 
+// Calls that write, the first of them number 1: the name, the piece of an `append` or none for a
+// `start`, the answer, and what the named file holds then. Calls 4 and 7 are to fail.
+type Change = (
+    &'static str,
+    Option<&'static [u8]>,
+    Result<(), OutFault>,
+    Option<&'static [u8]>,
+);
+
+static CHANGES: [Change; 12] = [
+    ("a", Some(b"x"), Err(OutFault::Failed), None),
+    ("a", None, Ok(()), Some(b"")),
+    ("a", Some(b"012"), Ok(()), Some(b"012")),
+    ("a", Some(b"xy"), Err(OutFault::Failed), Some(b"012")),
+    ("a", Some(b"34"), Ok(()), Some(b"01234")),
+    ("kept", Some(b""), Ok(()), Some(b"as it was")),
+    ("a", None, Err(OutFault::Failed), Some(b"01234")),
+    ("a/b", None, Ok(()), Some(b"")),
+    ("a/b", Some(b"z"), Ok(()), Some(b"z")),
+    ("a", Some(b"5"), Ok(()), Some(b"012345")),
+    ("b", Some(b""), Err(OutFault::Failed), None),
+    ("a", None, Ok(()), Some(b"")),
+];
+
+#[test]
+fn files_in_memory_are_started_and_appended_to(rt: HostRuntime) {
+    let mut files = MemFiles::new(rt.alloc());
+    assert_eq!(rt; files.put("kept", b"as it was"), Ok(()));
+    assert_eq!(rt; files.fail_at(4), Ok(()));
+    assert_eq!(rt; files.fail_at(7), Ok(()));
+    assert_eq!(rt; files.fail_at(13), Ok(()));
+    for (name, piece, want, held) in CHANGES.iter() {
+        expect_change(&rt, &mut files, name, *piece, *want);
+        assert!(rt; files.bytes(name) == *held, "{name}");
+        assert!(rt; files.bytes("kept") == Some(b"as it was".as_slice()));
+    }
+    assert_eq!(rt; (files.read_faults, files.write_faults), (0, 4));
+    expect_size(&rt, &mut files, "a/b", Err(OutFault::Failed));
+    expect_size(&rt, &mut files, "b", Err(OutFault::Failed));
+    expect_read_at(&rt, &mut files, "a/b", 0, 8, Some(b"z"));
+    assert_eq!(rt; (files.read_faults, files.write_faults), (2, 4));
+}
+
 #[test]
 fn a_reader_is_a_source_and_its_errors_are_faults(rt: HostRuntime) {
     let mut source = StdSource::new(SlowReader {
@@ -215,5 +273,41 @@ fn the_files_of_the_system_are_read_by_path(rt: HostRuntime) -> Result<(), Fail>
     fs::remove_file(&rt, "folder/file")?;
     fs::remove_dir(&rt, "folder")?;
     fs::remove_file(&rt, "empty")?;
+    Ok(())
+}
+
+#[test]
+fn the_files_of_the_system_are_written_by_path(rt: HostRuntime) -> Result<(), Fail> {
+    fs::create_dir(&rt, "written")?;
+    let mut files = DirFiles::new(&rt);
+    let rows: [(&str, Option<&[u8]>, Option<&[u8]>); 7] = [
+        ("written/a", None, Some(b"")),
+        ("written/a", Some(b"012"), Some(b"012")),
+        ("written/a", Some(b""), Some(b"012")),
+        ("written/a", Some(b"34"), Some(b"01234")),
+        ("written/b", None, Some(b"")),
+        ("written/b", Some(b"z"), Some(b"z")),
+        ("written/a", None, Some(b"")),
+    ];
+    for (name, piece, held) in rows {
+        expect_change(&rt, &mut files, name, piece, Ok(()));
+        expect_read_at(&rt, &mut files, name, 0, 8, held);
+    }
+    expect_read_at(&rt, &mut files, "written/b", 0, 8, Some(b"z"));
+    assert_eq!(rt; (files.read_faults, files.write_faults), (0, 0));
+    let failing: [(&str, Option<&[u8]>); 5] = [
+        ("absent/a", None),
+        ("written", None),
+        ("written/c", Some(b"")),
+        ("written/c\0", None),
+        ("", Some(b"x")),
+    ];
+    for (name, piece) in failing {
+        expect_change(&rt, &mut files, name, piece, Err(OutFault::Failed));
+    }
+    assert_eq!(rt; (files.read_faults, files.write_faults), (0, 5));
+    fs::remove_file(&rt, "written/a")?;
+    fs::remove_file(&rt, "written/b")?;
+    fs::remove_dir(&rt, "written")?;
     Ok(())
 }
