@@ -1,6 +1,6 @@
 // A page-table entry and its bits.
 
-ghost use Rattle.std.specs.Prelude.{◌≡◌, ◌∷◌, ◌+◌, ◌*◌, ◌^◌, ◌<◌, ◌≤◌, ◌&&◌, [], ⊤, codes};
+ghost use Rattle.std.specs.Prelude.{◌≡◌, ◌∷◌, ◌+◌, ◌*◌, ◌%◌, ◌^◌, ◌<◌, ◌≤◌, ◌&&◌, [], ⊤, codes};
 ghost use Rattle.sv39_walk.specs.Entry.{address_in, has_bit, is_aligned, is_leaf, is_pointer, is_well_formed, page_of, permits, permits_kind, permits_mode, supervisor_may};
 
 use crate::{Ctx, Kind};
@@ -173,7 +173,8 @@ impl Entry {
     /// The address to which it maps `va`, as a leaf at this level.
     pub fn address(self, level: u8, va: u64) -> u64
         requires { level ≤ 2 }
-        ensures { result ≡ address_in level self.0 va }
+        ensures address { result ≡ address_in level self.0 va }
+        ensures place { result % 4096 ≡ va % 4096 }
     {
         self.page() * 4096 + bits(va, 0, 12 + 9 * level)
     }

@@ -1,6 +1,6 @@
 // The walker.
 
-ghost use Rattle.std.specs.Prelude.{◌≡◌, ◌+◌, ◌^◌, ◌≤◌, ◌<◌, ◌↔◌, ℕ, List, [], IfOk};
+ghost use Rattle.std.specs.Prelude.{◌≡◌, ◌+◌, ◌%◌, ◌^◌, ◌≤◌, ◌<◌, ◌↔◌, ℕ, List, [], IfOk};
 ghost use Rattle.sv39_walk.specs.declared.WalkFault.{WalkFault as Fault};
 ghost use Rattle.sv39_walk.specs.Plain.{arrived, translated, walked};
 ghost use Rattle.sv39_walk.specs.Remembered.{Agrees, DiffersOnlyIn, IsPartOf, IsUntouched};
@@ -62,6 +62,8 @@ impl Walker {
             ↔ Faults table.old.ram ctx.satp ctx.mode ctx.sum ctx.mxr kind va fault }
         ensures reckoned { result
             ≡ translated table.old.ram ctx.satp ctx.mode ctx.sum ctx.mxr kind va }
+        // an access goes to the same place in its page
+        ensures place { IfOk result (λ pa. pa % 4096 ≡ va % 4096) }
         ensures memory { table.new.ram ≡ table.old.ram }
         ensures counted { table.old.reads ≤ table.new.reads }
         ensures few { table.new.reads ≤ table.old.reads + 3 }
@@ -94,6 +96,7 @@ impl Walker {
 fn read_tables(table: &mut PageTable<'_>, ctx: Ctx, va: u64, kind: Kind) -> Result<u64, WalkFault>
     requires { table.old.reads ≤ 252 }
     ensures reckoned { result ≡ translated table.old.ram ctx.satp ctx.mode ctx.sum ctx.mxr kind va }
+    ensures place { IfOk result (λ pa. pa % 4096 ≡ va % 4096) }
     ensures memory { table.new.ram ≡ table.old.ram }
     ensures counted { table.old.reads ≤ table.new.reads }
     ensures few { table.new.reads ≤ table.old.reads + 3 }
@@ -145,6 +148,7 @@ fn walk(table: &mut PageTable<'_>, ctx: Ctx, va: u64, kind: Kind) -> Result<u64,
     requires { table.old.reads ≤ 252 }
     ensures computed { result
         ≡ walked table.old.ram ctx.mode ctx.sum ctx.mxr kind va 3 (root_of ctx.satp) }
+    ensures place { IfOk result (λ pa. pa % 4096 ≡ va % 4096) }
     ensures memory { table.new.ram ≡ table.old.ram }
     ensures counted { table.old.reads ≤ table.new.reads }
     ensures few { table.new.reads ≤ table.old.reads + 3 }
@@ -168,7 +172,8 @@ fn walk(table: &mut PageTable<'_>, ctx: Ctx, va: u64, kind: Kind) -> Result<u64,
 /// What a walk gives that ends at this entry.
 fn arrive(entry: Entry, ctx: Ctx, va: u64, kind: Kind, level: u8) -> Result<u64, WalkFault>
     requires { level ≤ 2 }
-    ensures { result ≡ arrived ctx.mode ctx.sum ctx.mxr kind va level entry.0 }
+    ensures arrived { result ≡ arrived ctx.mode ctx.sum ctx.mxr kind va level entry.0 }
+    ensures place { IfOk result (λ pa. pa % 4096 ≡ va % 4096) }
 {
     if !entry.permits(ctx, kind, level) {
         return Err(WalkFault::Page);

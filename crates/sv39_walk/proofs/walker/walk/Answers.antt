@@ -19,7 +19,7 @@ returns-then-not-is_pointer-clause-computed c =
     let inside : HasPart c.args.table.now.ram c.entry_address.result 8 = subst (λ (ram : List ℕ). HasPart ram c.entry_address.result 8) c.loop-level.invariant.2 (c.in-Some.ensures.inside.0 refl) in
     let word_is : c.in-Some.word ≡ number_at c.args.table.now.ram c.entry_address.result 8 = c.in-Some.ensures.number ∙ ap (λ (ram : List ℕ). number_at ram c.entry_address.result 8) c.loop-level.invariant.2 in
     let ends : is_pointer c.in-Some.word ≡ false = grind (arith) in
-    let answer : c.arrive.result ≡ arrived c.args.ctx.mode c.args.ctx.sum c.args.ctx.mxr c.args.kind c.args.va (c.loop-level.level - 1) c.in-Some.word = c.arrive.ensures ∙ ap (arrived c.args.ctx.mode c.args.ctx.sum c.args.ctx.mxr c.args.kind c.args.va (c.loop-level.level - 1)) c.of-entry.ensures in
+    let answer : c.arrive.result ≡ arrived c.args.ctx.mode c.args.ctx.sum c.args.ctx.mxr c.args.kind c.args.va (c.loop-level.level - 1) c.in-Some.word = c.arrive.ensures.arrived ∙ ap (arrived c.args.ctx.mode c.args.ctx.sum c.args.ctx.mxr c.args.kind c.args.va (c.loop-level.level - 1)) c.of-entry.ensures in
     answer
     ∙ sym (level_end c.args.table.now.ram c.args.ctx.mode c.args.ctx.sum c.args.ctx.mxr c.args.kind c.args.va c.loop-level.level c.loop-level.page c.entry_address.result c.in-Some.word c.loop-level-test.true c.entry_address.ensures.address inside word_is ends)
     ∙ c.loop-level.invariant.5
