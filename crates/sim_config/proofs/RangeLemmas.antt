@@ -158,12 +158,11 @@ window_facts ram (Some n) fits = window_fact ram n fits
 
 IsConfig-clean : (ms : Members) → IsClean Configuration ms → IsConfig (config_values ms)
 IsConfig-clean ms keys =
-    let harts = required_number Harts 1 1 (number_in Ram ms) (value_at Harts ms) keys.harts in
+    let harts = required_number Harts 1 8 (number_in Ram ms) (value_at Harts ms) keys.harts in
     let slice = required_number Slice 1 1024 (number_in Ram ms) (value_at Slice ms) keys.slice in
-    let harts_least = least_of 1 1 (number_in Harts ms) harts in
-    let harts_most = most_of 1 1 (number_in Harts ms) harts in
     record {
-      harts = omega arith;
+      harts_least = least_of 1 8 (number_in Harts ms) harts;
+      harts_most = most_of 1 8 (number_in Harts ms) harts;
       ram = ram_fact (number_in Ram ms) (required_pages Ram 65536 268435456 (number_in Ram ms) (value_at Ram ms) keys.ram);
       slice_least = least_of 1 1024 (number_in Slice ms) slice;
       slice_most = most_of 1 1024 (number_in Slice ms) slice;

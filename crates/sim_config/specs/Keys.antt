@@ -25,7 +25,7 @@ slice_kind = Number 1 1024
 
 -- The table. The value as a whole has no name, and is listed nowhere.
 abbrev pub row_of : Key → Row
-row_of Harts = record { name = codes "harts"; in_configuration = Required (Number 1 1); in_meta_text = Required (Number 1 8) }
+row_of Harts = record { name = codes "harts"; in_configuration = Required (Number 1 8); in_meta_text = Required (Number 1 8) }
 row_of Ram = record { name = codes "ram"; in_configuration = Required ram_kind; in_meta_text = Required ram_kind }
 row_of Slice = record { name = codes "slice"; in_configuration = Required slice_kind; in_meta_text = Required slice_kind }
 row_of Program = record { name = codes "program"; in_configuration = Required Text; in_meta_text = Unlisted }

@@ -23,7 +23,8 @@ IsWindow ram at = (at ≡ 0) ⊎ IsInRam ram at
 
 -- the ranges of a configuration's values
 pub record IsConfig (config : Config) : Type 0 where
-  pub harts : config.harts ≡ 1
+  pub harts_least : 1 ≤ config.harts
+  pub harts_most : config.harts ≤ 8
   pub ram : IsRamLength config.ram
   pub slice_least : 1 ≤ config.slice
   pub slice_most : config.slice ≤ 1024

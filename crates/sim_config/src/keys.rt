@@ -91,7 +91,7 @@ impl Key {
     {
         let needed = |least: u64, most: u64| Rule::Required(Kind::Number(least, most));
         match self {
-            Key::Harts => Row("harts", needed(1, 1), needed(1, 8)),
+            Key::Harts => Row("harts", needed(1, 8), needed(1, 8)),
             Key::Ram => Row("ram", RAM, RAM),
             Key::Slice => Row("slice", SLICE, SLICE),
             Key::Program => Row("program", Rule::Required(Kind::Text), Rule::Unlisted),

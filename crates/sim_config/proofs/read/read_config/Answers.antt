@@ -15,7 +15,7 @@ returns-in_err-value-clause-err c =
 pub overflow_cast-result : goal.overflow_cast-result
 overflow_cast-result c =
     let ranges = config_in_range c.args.text.now (members_of (view c.in_ok-value.value)) c.in_ok-value.ensures.none c.in_ok-value.ensures.members in
-    omega (arith, ranges.harts, c.number_in.ensures)
+    omega (arith, ranges.harts_most, c.number_in.ensures)
 
 pub overflow_cast-result-2 : goal.overflow_cast-result-2
 overflow_cast-result-2 c =
