@@ -1,3 +1,4 @@
 pub mod Access
 pub mod Layout
 pub mod State
+pub mod Laws

@@ -11,12 +11,14 @@ pub record ClintRegisters : Type 0 where
 abbrev pub hart_count : ClintRegisters → ℕ
 hart_count r = length r.msip
 
--- which registers are well formed: 1 to 8 harts, and of each msip bit 0 alone
+-- which registers are well formed: 1 to 8 harts, of each msip bit 0 alone, and times of 64 bits
 pub record IsFit (r : ClintRegisters) : Type 0 where
   pub some : 0 < hart_count r
   pub most : hart_count r ≤ 8
   pub same : length r.mtimecmp ≡ hart_count r
   pub bits : All (λ x. x ≤ 1) r.msip
+  pub compares : All (λ x. x < 2 ^ 64) r.mtimecmp
+  pub time : r.mtime < 2 ^ 64
 
 -- the registers at reset: no timer interrupt is due before the end of time
 unfoldable pub reset_registers : ℕ → ClintRegisters

@@ -25,14 +25,14 @@ pub struct Clint {
 }
 
 impl Model for Clint {
-    ghost use Rattle.std.specs.Prelude.{◌<◌, ◌≤◌, All, take};
+    ghost use Rattle.std.specs.Prelude.{◌<◌, ◌≤◌, ◌^◌, All, take};
     ghost use Rattle.clint.specs.State.{ClintRegisters};
 
     ghost Value = { ClintRegisters };
 
     ghost view = { λ c. record { msip = take c.harts c.msip; mtimecmp = take c.harts c.mtimecmp; mtime = c.mtime } };
 
-    ghost invariant = { λ c. (0 < c.harts) × (c.harts ≤ 8) × All (λ x. x ≤ 1) c.msip };
+    ghost invariant = { λ c. (0 < c.harts) × (c.harts ≤ 8) × All (λ x. x ≤ 1) c.msip × All (λ x. x < 2 ^ 64) c.mtimecmp × (c.mtime < 2 ^ 64) };
 }
 
 impl Clint {

@@ -3,8 +3,11 @@
 #![tactic(auto)]
 
 mod block;
+mod laws;
 mod registers;
 #[cfg(test)]
 mod tests;
 
 pub use block::{Clint, Refused};
+pub use laws::keeps_harts;
+pub use registers::listed;

@@ -2,7 +2,7 @@
 #![tactic(auto, unfolding(crate::specs::Layout::row_at, crate::specs::Layout::register_at))]
 
 ghost use Rattle.std.specs.Prelude.{◌≡◌, ◌<◌, ◌^◌, ◌*◌, ◌+◌, ◌%◌, IfSome};
-ghost use Rattle.clint.specs.Layout.{IsOfHart, register_at, row_at, size_of};
+ghost use Rattle.clint.specs.Layout.{IsOfHart, is_listed, register_at, row_at, size_of};
 ghost use Rattle.clint.specs.Access.{low_bytes};
 
 /// A register of the block; the number is that of a hart.
@@ -42,6 +42,13 @@ pub(crate) fn register_at(harts: u8, off: u64, size: u8) -> Option<Register>
         8 => Some(Register::Mtimecmp(row_at(0x4000, 8, harts, off)?)),
         _ => None,
     }
+}
+
+/// Whether a block for this many harts has a register of `size` bytes at offset `off`.
+pub fn listed(harts: u8, off: u64, size: u8) -> bool
+    ensures { result ≡ is_listed harts off size }
+{
+    register_at(harts, off, size).is_some()
 }
 
 impl Register {

@@ -1,4 +1,4 @@
-use crate::{Clint, Refused};
+use crate::{Clint, Refused, listed};
 use std::process::Abort;
 use std::test::Fail;
 
@@ -22,6 +22,7 @@ fn each_register_has_its_reset_value_and_keeps_its_bits(rt: HostRuntime) {
         (8, 0xbff8, 8, 0, u64::MAX),
     ] {
         let mut clint = block(&rt, harts);
+        assert!(rt; listed(harts, off, size));
         assert_eq!(rt; clint.load(off, size), Ok(reset), "reset of {off}");
         assert_eq!(rt; clint.store(off, size, 0x1122_3344_5566_7788), Ok(()));
         let even = if size == 4 { 0 } else { 0x1122_3344_5566_7788 };
@@ -54,6 +55,7 @@ fn other_offsets_and_sizes_are_refused(rt: HostRuntime) {
         (8, 0, 255),
     ] {
         let mut clint = block(&rt, harts);
+        assert!(rt; !listed(harts, off, size));
         assert_eq!(rt;
             clint.load(off, size),
             Err(Refused),

@@ -1,5 +1,5 @@
 -- What contracts see of the console: the bytes that wait, and the values of its registers.
-use Rattle.std.specs.Prelude.{◌+◌, ◌≤◌, ℕ, Bool, ◌==◌, ◌&&◌, nat_lt, bit_and, if◌then◌else◌, List, [], ◌∷◌, ◌++◌, length}
+use Rattle.std.specs.Prelude.{◌+◌, ◌^◌, ◌<◌, ◌≤◌, ℕ, All, Bool, ◌==◌, ◌&&◌, nat_lt, bit_and, if◌then◌else◌, List, [], ◌∷◌, ◌++◌, length}
 
 -- the queue has the bytes that wait to be read, the first of them first
 pub record ConsoleRegisters : Type 0 where
@@ -11,10 +11,12 @@ pub record ConsoleRegisters : Type 0 where
 abbrev pub queue_room : ℕ
 queue_room = 16
 
--- which registers are well formed
+-- which registers are well formed: at most 16 bytes wait, ctrl has three bits and txaddr 64
 pub record IsFit (r : ConsoleRegisters) : Type 0 where
   pub room : length r.queue ≤ queue_room
+  pub bytes : All (λ b. b < 256) r.queue
   pub ctrl : r.ctrl ≤ 7
+  pub txaddr : r.txaddr < 2 ^ 64
 
 -- the registers at reset
 abbrev pub reset_registers : ConsoleRegisters

@@ -35,14 +35,14 @@ pub struct Console {
 }
 
 impl Model for Console {
-    ghost use Rattle.std.specs.Prelude.{◌≤◌, take};
+    ghost use Rattle.std.specs.Prelude.{◌<◌, ◌≤◌, ◌^◌, All, take};
     ghost use Rattle.console.specs.State.{ConsoleRegisters};
 
     ghost Value = { ConsoleRegisters };
 
     ghost view = { λ c. record { queue = take c.count c.bytes; ctrl = c.ctrl.0; txaddr = c.txaddr } };
 
-    ghost invariant = { λ c. (c.count ≤ 16) × (c.ctrl.0 ≤ 7) };
+    ghost invariant = { λ c. (c.count ≤ 16) × All (λ b. b < 256) c.bytes × (c.ctrl.0 ≤ 7) × (c.txaddr < 2 ^ 64) };
 }
 
 /// Whether the `n` bytes from `at` all lie in guest memory.

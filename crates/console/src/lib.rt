@@ -6,10 +6,13 @@
 
 mod control;
 mod device;
+mod laws;
 mod output;
 mod registers;
 #[cfg(test)]
 mod tests;
 
 pub use device::{Console, Refused};
+pub use laws::sends_at_most;
 pub use output::{NoMemory, OutBuf};
+pub use registers::listed;

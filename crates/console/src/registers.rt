@@ -2,7 +2,7 @@
 #![tactic(auto, unfolding(crate::specs::Layout::register_at))]
 
 ghost use Rattle.std.specs.Prelude.{◌≡◌, ◌<◌, ◌^◌, IfSome};
-ghost use Rattle.console.specs.Layout.{register_at, size_of};
+ghost use Rattle.console.specs.Layout.{is_listed, register_at, size_of};
 ghost use Rattle.console.specs.Access.{low_bytes};
 
 /// A register of the console.
@@ -28,6 +28,13 @@ pub(crate) fn register_at(off: u64, size: u8) -> Option<Register>
         (0x18, 4) => Some(Register::TxLen),
         _ => None,
     }
+}
+
+/// Whether the console has a register of `size` bytes at offset `off`.
+pub fn listed(off: u64, size: u8) -> bool
+    ensures { result ≡ is_listed off size }
+{
+    register_at(off, size).is_some()
 }
 
 impl Register {

@@ -1,4 +1,4 @@
-use crate::{Console, OutBuf, Refused};
+use crate::{Console, OutBuf, Refused, listed};
 use guest_ram::{BASE, GuestRam};
 use std::process::Abort;
 use std::test::Fail;
@@ -30,6 +30,7 @@ fn each_register_has_its_reset_value_and_keeps_its_bits(rt: HostRuntime) -> Resu
     ] {
         let mut console = Console::reset();
         out.clear();
+        assert!(rt; listed(off, size));
         assert_eq!(rt; console.load(off, size), Ok(reset), "reset of {off}");
         assert_eq!(rt;
             put(&rt, &mut console, (off, size), u64::MAX, &ram, &mut out),
@@ -64,6 +65,7 @@ fn other_offsets_and_sizes_are_refused(rt: HostRuntime) -> Result<(), Fail> {
         (0x20, 8),
         (u64::MAX, 1),
     ] {
+        assert!(rt; !listed(off, size));
         assert_eq!(rt;
             console.load(off, size),
             Err(Refused),

@@ -8,3 +8,4 @@ mod registers;
 mod tests;
 
 pub use controller::{Plic, Refused};
+pub use registers::listed;

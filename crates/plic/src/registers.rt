@@ -2,7 +2,7 @@
 #![tactic(auto, unfolding(crate::specs::Layout::row_at, crate::specs::Layout::word_at))]
 
 ghost use Rattle.std.specs.Prelude.{◌≡◌, ◌<◌, ◌≤◌, ◌^◌, ◌*◌, ◌+◌, ◌%◌, IfSome, OnSome};
-ghost use Rattle.plic.specs.Layout.{IsOfContext, register_at, row_at, word_at};
+ghost use Rattle.plic.specs.Layout.{IsOfContext, is_listed, register_at, row_at, word_at};
 
 /// A register of the controller; the number is that of a source or of a context.
 #[derive(Clone, Copy)]
@@ -59,4 +59,12 @@ pub(crate) fn register_at(contexts: u8, off: u64, size: u8) -> Option<Register>
     } else {
         None
     }
+}
+
+/// Whether a controller for this many contexts, two for each hart, has a register of `size` bytes at
+/// offset `off`.
+pub fn listed(contexts: u8, off: u64, size: u8) -> bool
+    ensures { result ≡ is_listed contexts off size }
+{
+    register_at(contexts, off, size).is_some()
 }

@@ -1,7 +1,7 @@
 ghost use Rattle.std.specs.Prelude.{◌≡◌, IfOk};
 ghost use Rattle.plic.specs.State.{context_count};
 
-use crate::{Plic, Refused};
+use crate::{Plic, Refused, listed};
 use std::process::Abort;
 use std::test::Fail;
 
@@ -37,6 +37,7 @@ fn each_register_is_zero_at_reset_and_keeps_its_bits(rt: HostRuntime) {
         (8, 0x20_f004, 0),
     ] {
         let mut plic = controller(&rt, harts);
+        assert!(rt; harts <= 8 && listed(2 * harts, off, 4));
         assert_eq!(rt; plic.load(off, 4, 0), Ok(0), "reset of {off}");
         assert_eq!(rt; plic.store(off, 4, u64::MAX), Ok(()));
         assert_eq!(rt; plic.load(off, 4, 0), Ok(ones), "ones at {off}");
@@ -70,6 +71,7 @@ fn other_offsets_and_sizes_are_refused(rt: HostRuntime) {
         (8, u64::MAX, 4),
     ] {
         let mut plic = controller(&rt, harts);
+        assert!(rt; harts <= 8 && !listed(2 * harts, off, size));
         assert_eq!(rt;
             plic.load(off, size, BOTH),
             Err(Refused),

@@ -1,0 +1,4 @@
+pub mod Board
+pub mod Laws
+pub mod Listed
+pub mod Window
