@@ -1,2 +1,9 @@
+pub mod Outside
 pub mod Parity
+pub mod Lists
+pub mod Stores
 pub mod Steps
+pub mod Causes
+pub mod Cuts
+pub mod Numbers
+pub mod Kept

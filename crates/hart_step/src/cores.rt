@@ -1,17 +1,25 @@
 // A core of several harts over one memory.
 
-ghost use Rattle.std.specs.Prelude.{◌≡◌, ◌%◌, ◌<◌, ◌≤◌, None, length, IfOk};
-ghost use Rattle.hart_step.specs.Harts.{IsFitHart, hart_of, reset_core};
-ghost use Rattle.hart_step.specs.Step.{IsBuilt, Shows, after_access, attempt, not_built, nothing_given, step, unbuilt_of};
+ghost use Rattle.std.specs.Prelude.{◌≡◌, ◌%◌, ◌<◌, ◌≤◌, ◌^◌, ◌&&◌, not, if◌then◌else◌, [], All, IfOk, IfSome, length, map, position, slice_index_or, slice_set};
+ghost use Rattle.std.specs.List.{list_any};
+ghost use Rattle.guest_ram.specs.Bytes.{HasPart, with_part};
+ghost use Rattle.byteorder.specs.Endian.{little_bytes};
+ghost use Rattle.hart_step.specs.Answers.{after_access, given_by};
+ghost use Rattle.hart_step.specs.Events.{IsEvent};
+ghost use Rattle.hart_step.specs.Fit.{IsFit, IsWellFormed};
+ghost use Rattle.hart_step.specs.Harts.{hart_of, is_in_debug, lowest_in_debug, reset_core, reset_hart};
+ghost use Rattle.hart_step.specs.Step.{after_store, host_cleared, rom_after, step, stored_by, unreserved, unreserved_hart, without_reservation};
 
 use crate::answers::Answers;
-use crate::event::Event;
-use crate::execute::{execute, is_built};
-use crate::fetch::{Fetched, decode_fetched, fetch};
-use crate::hart::{Hart, privilege};
+use crate::event::{Event, Put};
+use crate::fit::{see_bytes, see_hart};
+use crate::hart::Hart;
+use crate::memory::Memory;
+use crate::stepping::step_hart;
 use guest_ram::GuestRam;
 use std::alloc::{AllocError, Global};
 use std::marker::Model;
+use sv39_walk::Walker;
 
 /// The allocator has no room for the harts.
 pub type NoMemory = AllocError;
@@ -21,41 +29,74 @@ pub type NoMemory = AllocError;
 #[derive(Drop)]
 pub struct Core {
     harts: Vec<Hart>,
-    ram: GuestRam,
+    memory: Memory,
 }
 
 impl Model for Core {
-    ghost use Rattle.std.specs.Prelude.{[]};
-    ghost use Rattle.hart_step.specs.Harts.{CoreState, IsFit};
+    ghost use Rattle.hart_step.specs.Fit.{IsKept};
+    ghost use Rattle.hart_step.specs.Harts.{CoreState};
 
     ghost Value = { CoreState };
 
-    ghost view = { λ core. record { harts = core.harts.items; ram = core.ram; rom = [] } };
+    ghost view = { λ core. record { harts = core.harts.items; ram = core.memory.ram; rom = core.memory.rom } };
 
-    ghost invariant = { λ core. IsFit (record { harts = core.harts.items; ram = core.ram; rom = [] }) };
+    ghost invariant = { λ core. IsKept (record { harts = core.harts.items; ram = core.memory.ram; rom = core.memory.rom }) };
 }
 
 impl Core {
     /// All harts at reset over this memory, with the entry as their pc. `harts` is 1 to 8, and
     /// `entry` is even.
+    #[tactic(auto, using(crate::proofs::Lists::reset_length))]
     pub fn new(alloc: Global, harts: u8, ram: GuestRam, entry: u64) -> Result<Core, NoMemory>
         requires some { 0 < harts }
         requires most { harts ≤ 8 }
         requires even { entry % 2 ≡ 0 }
-        ensures { IfOk result (λ core. core ≡ reset_core harts ram entry) }
+        ensures core { IfOk result (λ core. core ≡ reset_core harts ram entry) }
+        ensures count { IfOk result (λ core. length core.harts ≡ harts) }
     {
         let mut list = Vec::new(alloc);
-        for _ in 0..harts {
-            list.push(Hart::at_reset(entry))?;
+        for h in 0..harts {
+            let hart = Hart::at_reset(h, entry);
+            see_hart(&hart);
+            list.push(hart)?;
         }
-        Ok(Core { harts: list, ram })
+        let walker = Walker::new(alloc)?;
+        let memory = Memory::new(ram, Vec::new(alloc), walker);
+        Ok(Core {
+            harts: list,
+            memory,
+        })
+    }
+
+    /// How many harts there are.
+    pub fn harts(&self) -> u8
+        ensures count { result ≡ length self.now.harts }
+        ensures some { 0 < result }
+        ensures most { result ≤ 8 }
+    {
+        self.harts.len() as u8
+    }
+
+    /// The core is well formed.
+    pub fn see_fit(&self)
+        ensures { IsFit self.now }
+    {
+        see_bytes(self.memory.rom());
+        self.memory.see_bytes();
     }
 
     /// The memory.
     pub fn ram(&self) -> &GuestRam
         ensures { result.now ≡ self.now.ram }
     {
-        &self.ram
+        self.memory.ram()
+    }
+
+    /// The boot ROM, which is empty out of a boot.
+    pub fn rom(&self) -> &[u8]
+        ensures { result.now ≡ self.now.rom }
+    {
+        self.memory.rom()
     }
 
     /// Hart `h`, which is below the number of harts.
@@ -66,79 +107,198 @@ impl Core {
         &self.harts[h as usize]
     }
 
-    /// The word and the pc of hart `h`'s next step where it is not built yet, none where it is. The
-    /// word is the fetched one, a 16-bit one with zeros above, or 0 where none can be fetched. No
-    /// interrupt can be taken yet, whatever signals are live.
-    pub fn not_built(&mut self, h: u8, _live: u64) -> Option<(u32, u64)>
-        requires { h < length self.old.harts }
-        ensures next { result ≡ not_built self.old h }
-        ensures same { self.new ≡ self.old }
+    /// The lowest hart in debug mode, and none where no hart is in it.
+    pub fn in_debug(&self) -> Option<u8>
+        ensures { result ≡ lowest_in_debug self.now }
     {
-        next_not_built(&self.harts[h as usize], &self.ram)
+        match first_in_debug(&self.harts) {
+            Some(h) => Some(h as u8),
+            None => None,
+        }
     }
 
-    /// Takes one step of hart `h`.
+    /// The first of the eight bytes that hart `h` has reserved.
+    pub fn reservation(&self, h: u8) -> Option<u64>
+        requires { h < length self.now.harts }
+        ensures { result ≡ (hart_of self.now h).reservation }
+    {
+        self.harts[h as usize].reservation
+    }
+
+    /// Stores 8 zero bytes in memory as a device does: every reservation that they touch is lost. `at`
+    /// is a multiple of 8 whose 8 bytes lie in memory.
+    pub fn host_clear(&mut self, at: u64)
+        requires aligned { at % 8 ≡ 0 }
+        requires inside { HasPart self.old.ram at 8 }
+        ensures core { self.new ≡ host_cleared self.old at }
+        ensures harts { length self.new.harts ≡ length self.old.harts }
+        ensures ram { length self.new.ram ≡ length self.old.ram }
+    {
+        self.memory.write(at, 8, 0);
+        lose_touched(&mut self.harts, at, 8);
+    }
+
+    /// Drops every reservation.
+    pub fn clear_reservations(&mut self)
+        ensures core { self.new ≡ unreserved self.old }
+        ensures harts { length self.new.harts ≡ length self.old.harts }
+    {
+        drop_reservations(&mut self.harts);
+    }
+
+    /// Takes one step of hart `h`, and answers what it did.
+    #[inline(always)]
     pub fn step<A: Answers>(&mut self, h: u8, answers: &mut A) -> Event
         requires hart { h < length self.old.harts }
-        requires ready { A.ready answers.old }
-        requires built { not_built self.old h ≡ None }
-        ensures event { result ≡ (step nothing_given self.old h).event }
-        ensures core { self.new ≡ (step nothing_given self.old h).core }
+        requires ready { A.ready answers.old h }
+        ensures event { result ≡ (step (given_by A.interrupts A.devices A.volatiles A.wins answers.old h
+            (hart_of self.old h)) self.old h).event }
+        ensures formed { IsEvent result }
+        ensures core { self.new ≡ (step (given_by A.interrupts A.devices A.volatiles A.wins answers.old h
+            (hart_of self.old h)) self.old h).core }
         ensures harts { length self.new.harts ≡ length self.old.harts }
-        ensures outside { answers.new ≡ after_access A.stored answers.old h self.new.ram (step nothing_given self.old h).access }
+        ensures ram { length self.new.ram ≡ length self.old.ram }
+        ensures outside { answers.new ≡ after_access A.loaded A.stored answers.old h self.new.ram
+            (step (given_by A.interrupts A.devices A.volatiles A.wins answers.old h
+            (hart_of self.old h)) self.old h).access }
     {
-        step_hart(h, &mut self.harts[h as usize], &mut self.ram, answers)
+        let mut event = Event::Host { word: 0 };
+        self.step_into(h, answers, &mut event);
+        event
+    }
+
+    /// Takes one step of hart `h`, and writes what it did in the place of another event.
+    #[inline(always)]
+    pub fn step_into<A: Answers>(&mut self, h: u8, answers: &mut A, event: &mut Event)
+        requires hart { h < length self.old.harts }
+        requires ready { A.ready answers.old h }
+        ensures event { event.new ≡ (step (given_by A.interrupts A.devices A.volatiles A.wins answers.old h
+            (hart_of self.old h)) self.old h).event }
+        ensures formed { IsEvent event.new }
+        ensures core { self.new ≡ (step (given_by A.interrupts A.devices A.volatiles A.wins answers.old h
+            (hart_of self.old h)) self.old h).core }
+        ensures harts { length self.new.harts ≡ length self.old.harts }
+        ensures ram { length self.new.ram ≡ length self.old.ram }
+        ensures outside { answers.new ≡ after_access A.loaded A.stored answers.old h self.new.ram
+            (step (given_by A.interrupts A.devices A.volatiles A.wins answers.old h
+            (hart_of self.old h)) self.old h).access }
+    {
+        let count = self.harts();
+        let hart = &mut self.harts[h as usize];
+        let was_in_debug = hart.is_in_debug();
+        step_hart(h, count, hart, &mut self.memory, answers, event);
+        see_hart(hart);
+        let left_debug = has_left_debug(was_in_debug, hart);
+        lose_reservations(&mut self.harts, h, stored(event));
+        close_rom(&mut self.memory, left_debug, &self.harts);
     }
 }
 
-/// The word and the pc of a hart's next step where it is not built.
-#[tactic(auto, unfolding(crate::specs::Step::attempt))]
-fn next_not_built(hart: &Hart, ram: &GuestRam) -> Option<(u32, u64)>
-    requires { IsFitHart hart.now }
-    ensures { result ≡ unbuilt_of hart.now (attempt nothing_given hart.now ram.now) }
+/// What an event shows as stored.
+#[inline(always)]
+fn stored(event: &Event) -> Option<Put>
+    ensures { result ≡ stored_by event.now }
 {
-    let pc = hart.pc;
-    match fetch(ram, pc) {
-        Fetched::Faulted { .. } => Some((0, pc)),
-        Fetched::Word { word, len } => match decode_fetched(word, len) {
-            None => Some((word, pc)),
-            Some(insn) => {
-                if is_built(insn, len, hart, ram) {
-                    None
-                } else {
-                    Some((word, pc))
-                }
-            }
-        },
+    match event {
+        Event::Commit { st, .. } => *st,
+        Event::Exception { .. } => None,
+        Event::Interrupt { .. } => None,
+        Event::Host { .. } => None,
     }
 }
 
-/// Takes one step of a hart, whose number is `h`.
-#[tactic(auto, unfolding(crate::specs::Step::attempt))]
-fn step_hart<A: Answers>(h: u8, hart: &mut Hart, ram: &mut GuestRam, answers: &mut A) -> Event
-    requires ready { A.ready answers.old }
-    requires fit { IsFitHart hart.old }
-    requires built { IsBuilt (attempt nothing_given hart.old ram.old).outcome }
-    ensures shown { Shows A.stored answers.old answers.new h hart.old hart.new ram.new result (attempt nothing_given hart.old ram.old) }
-    ensures fit { IsFitHart hart.new }
+/// Whether a hart has left debug mode.
+#[inline(always)]
+fn has_left_debug(was_in_debug: bool, hart: &Hart) -> bool
+    ensures { result ≡ (was_in_debug && not (is_in_debug hart.now)) }
 {
-    let pc = hart.pc;
-    let mode = privilege(hart.mode);
-    let Fetched::Word { word, len } = fetch(ram, pc) else {
-        unreachable!()
+    was_in_debug && !hart.is_in_debug()
+}
+
+/// The place of the first hart in debug mode.
+fn first_in_debug(harts: &[Hart]) -> Option<usize>
+    ensures place { result ≡ position is_in_debug harts.now }
+    ensures within { IfSome result (λ h. h < length harts.now) }
+{
+    harts.iter().position(|hart| hart.is_in_debug())
+}
+
+/// Whether some hart is in debug mode.
+fn is_any_in_debug(harts: &[Hart]) -> bool
+    ensures { result ≡ list_any is_in_debug harts.now }
+{
+    harts.iter().any(|hart| hart.is_in_debug())
+}
+
+/// Empties the ROM where a hart has left debug mode and none is in it any more.
+#[inline(always)]
+fn close_rom(memory: &mut Memory, left_debug: bool, harts: &[Hart])
+    ensures { memory.new ≡ record memory.old {
+      rom =
+          if left_debug && not (list_any is_in_debug harts.now) then [] else memory.old.rom;
+    } }
+{
+    if left_debug && !is_any_in_debug(harts) {
+        memory.empty_rom();
+    }
+}
+
+/// Drops the reservations of all harts but hart `h` that something stored touches.
+#[inline(always)]
+fn lose_reservations(harts: &mut Vec<Hart>, h: u8, put: Option<Put>)
+    requires hart { h < length harts.old.items }
+    requires fit { All IsWellFormed harts.old.items }
+    ensures harts { harts.new.items ≡ slice_set (after_store put harts.old.items) h (slice_index_or harts.old.items h (reset_hart 0 0)) }
+    ensures fit { All IsWellFormed harts.new.items }
+{
+    let Some(put) = put else {
+        return;
     };
-    let Some(insn) = decode_fetched(word, len) else {
-        unreachable!()
-    };
-    let done = execute(h, insn, len, hart, ram, answers);
-    Event::Commit {
-        hart: h,
-        mode,
-        pc,
-        insn: word,
-        rd: done.rd,
-        st: done.st,
-        dv: done.dv,
-        vl: done.vl,
+    let own = harts[h as usize].reservation;
+    lose_touched(harts, put.at, put.size);
+    harts[h as usize].reservation = own;
+}
+
+/// Drops the reservations of harts that the `size` bytes from `at` touch.
+fn lose_touched(harts: &mut Vec<Hart>, at: u64, size: u8)
+    requires fit { All IsWellFormed harts.old.items }
+    ensures harts { harts.new.items ≡ map (without_reservation at size) harts.old.items }
+    ensures count { length harts.new.items ≡ length harts.old.items }
+    ensures fit { All IsWellFormed harts.new.items }
+{
+    lose_all(harts.as_mut_slice(), at, size);
+}
+
+/// Drops the reservations of all harts.
+fn drop_reservations(harts: &mut Vec<Hart>)
+    requires fit { All IsWellFormed harts.old.items }
+    ensures harts { harts.new.items ≡ map unreserved_hart harts.old.items }
+    ensures count { length harts.new.items ≡ length harts.old.items }
+    ensures fit { All IsWellFormed harts.new.items }
+{
+    drop_all(harts.as_mut_slice());
+}
+
+/// The same in a slice.
+fn lose_all(harts: &mut [Hart], at: u64, size: u8)
+    requires fit { All IsWellFormed harts.old }
+    ensures harts { harts.new ≡ map (without_reservation at size) harts.old }
+    ensures count { length harts.new ≡ length harts.old }
+    ensures fit { All IsWellFormed harts.new }
+{
+    for hart in harts.iter_mut() {
+        hart.lose(at, size);
+    }
+}
+
+/// The same in a slice.
+fn drop_all(harts: &mut [Hart])
+    requires fit { All IsWellFormed harts.old }
+    ensures harts { harts.new ≡ map unreserved_hart harts.old }
+    ensures count { length harts.new ≡ length harts.old }
+    ensures fit { All IsWellFormed harts.new }
+{
+    for hart in harts.iter_mut() {
+        hart.reservation = None;
     }
 }

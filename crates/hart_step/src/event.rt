@@ -18,7 +18,7 @@ pub enum Priv {
     D,
 }
 
-/// What one step did.
+/// What one step did, or the host.
 #[derive(Clone, Copy, PartialEq, Eq, Debug)]
 pub enum Event {
     /// An instruction was carried out. `mode` and `pc` are those before the step. `insn` is its
@@ -34,5 +34,23 @@ pub enum Event {
         st: Option<Put>,
         dv: Option<u64>,
         vl: Option<u64>,
+    },
+    /// An instruction raised an exception instead, or could not be fetched. `mode` and `pc` are those
+    /// before the step, `cause` is the exception's number, below 16, and `tval` its trap value.
+    Exception {
+        hart: u8,
+        mode: Priv,
+        pc: u64,
+        cause: u8,
+        tval: u64,
+    },
+    /// An interrupt was taken, by its number.
+    Interrupt {
+        hart: u8,
+        cause: u8,
+    },
+    /// The host took this word out of its window.
+    Host {
+        word: u64,
     },
 }

@@ -1,48 +1,51 @@
 // What each instruction does.
 
-ghost use Rattle.std.specs.Prelude.{◌≡◌, ◌%◌, ◌↔◌, IsTrue};
+ghost use Rattle.std.specs.Prelude.{◌≡◌, ◌%◌, ◌≤◌, IfOk, length};
 ghost use Rattle.rv_decode.specs.Ranges.{IsInRange};
-ghost use Rattle.hart_step.specs.Harts.{IsFitHart};
-ghost use Rattle.hart_step.specs.Step.{CarriesOut, IsBuilt, effect, nothing_given};
+ghost use Rattle.hart_step.specs.Answers.{given_by};
+ghost use Rattle.hart_step.specs.Effects.{Leaves, effect};
+ghost use Rattle.hart_step.specs.Events.{IsDone};
+ghost use Rattle.hart_step.specs.Harts.{IsFitHart, StaysFit};
 
+use crate::access::{Extension, Site, load, store};
 use crate::answers::Answers;
 use crate::arithmetic::{compute, compute_immediate, compute_shift, multiply, word_of, write};
+use crate::atomic::{load_reserved, store_conditional, update};
 use crate::control::{branch_to, following, jump, jump_register, offset, pass};
-use crate::event::Put;
+use crate::done::Done;
+use crate::exception::Exception;
 use crate::hart::Hart;
-use crate::memory::{CONSOLE_DATA, Extension, load, reach, store, store_byte};
-use guest_ram::GuestRam;
-use rv_alu::{BinOp, CondOp, MulOp};
+use crate::memory::Memory;
+use crate::system::{return_debug, return_machine, return_supervisor};
+use crate::zicsr::{clear_csr, set_csr, write_csr};
+use rv_alu::{AmoOp, BinOp, CondOp, MulOp};
 use rv_decode::Insn;
 
-/// What the event of an instruction shows.
-#[derive(Clone, Copy)]
-pub(crate) struct Done {
-    pub(crate) rd: Option<(u8, u64)>,
-    pub(crate) st: Option<Put>,
-    pub(crate) dv: Option<u64>,
-    pub(crate) vl: Option<u64>,
-}
-
-/// Carries out the instruction of a word of `len` bytes on the hart `h` and the memory.
-#[tactic(auto, unfolding(crate::specs::Step::effect))]
+/// Carries out the instruction at a site on its hart and memory, or answers the exception that it
+/// raises; then nothing has changed.
+#[tactic(auto, unfolding(crate::specs::Effects::effect))]
+#[inline(always)]
 pub(crate) fn execute<A: Answers>(
-    h: u8,
+    site: Site,
     insn: Insn,
-    len: u8,
     hart: &mut Hart,
-    ram: &mut GuestRam,
+    memory: &mut Memory,
     answers: &mut A,
-) -> Done
-    requires ready { A.ready answers.old }
+) -> Result<Done, Exception>
+    requires ready { A.ready answers.old site.hart }
     requires range { IsInRange insn }
-    requires length { len % 2 ≡ 0 }
+    requires harts { site.harts ≤ 8 }
+    requires length { site.len % 2 ≡ 0 }
     requires fit { IsFitHart hart.old }
-    requires built { IsBuilt (effect nothing_given len insn hart.old ram.old) }
-    ensures done { CarriesOut A.stored answers.old answers.new h hart.new ram.new result (effect nothing_given len insn hart.old ram.old) }
-    ensures fit { IsFitHart hart.new }
+    ensures leaves { Leaves A.loaded A.stored answers.old answers.new site.hart hart.new memory.new result
+        (effect (given_by A.interrupts A.devices A.volatiles A.wins answers.old site.hart hart.old)
+        site.harts site.len site.word insn hart.old memory.old) }
+    ensures formed { IfOk result IsDone }
+    ensures length { length memory.new.ram ≡ length memory.old.ram }
+    ensures rom { memory.new.rom ≡ memory.old.rom }
+    ensures fit { StaysFit hart.old hart.new }
 {
-    let next = following(hart, len);
+    let next = following(hart, site.len);
     match insn {
         Insn::Lui { rd, imm } => write(hart, rd, word_of(imm), next),
         Insn::Auipc { rd, imm } => {
@@ -51,63 +54,59 @@ pub(crate) fn execute<A: Answers>(
         }
         Insn::Jal { rd, imm } => jump(hart, rd, imm, next),
         Insn::Jalr { rd, rs1, imm } => jump_register(hart, rd, rs1, imm, next),
-        Insn::Beq { rs1, rs2, imm } => branch_to(hart, CondOp::Eq, rs1, rs2, imm, len),
-        Insn::Bne { rs1, rs2, imm } => branch_to(hart, CondOp::Ne, rs1, rs2, imm, len),
-        Insn::Blt { rs1, rs2, imm } => branch_to(hart, CondOp::Lt, rs1, rs2, imm, len),
-        Insn::Bge { rs1, rs2, imm } => branch_to(hart, CondOp::Ge, rs1, rs2, imm, len),
-        Insn::Bltu { rs1, rs2, imm } => branch_to(hart, CondOp::Ltu, rs1, rs2, imm, len),
-        Insn::Bgeu { rs1, rs2, imm } => branch_to(hart, CondOp::Geu, rs1, rs2, imm, len),
+        Insn::Beq { rs1, rs2, imm } => branch_to(hart, CondOp::Eq, rs1, rs2, imm, site.len),
+        Insn::Bne { rs1, rs2, imm } => branch_to(hart, CondOp::Ne, rs1, rs2, imm, site.len),
+        Insn::Blt { rs1, rs2, imm } => branch_to(hart, CondOp::Lt, rs1, rs2, imm, site.len),
+        Insn::Bge { rs1, rs2, imm } => branch_to(hart, CondOp::Ge, rs1, rs2, imm, site.len),
+        Insn::Bltu { rs1, rs2, imm } => branch_to(hart, CondOp::Ltu, rs1, rs2, imm, site.len),
+        Insn::Bgeu { rs1, rs2, imm } => branch_to(hart, CondOp::Geu, rs1, rs2, imm, site.len),
         Insn::Lb { rd, rs1, imm } => {
-            let at = offset(hart.x(rs1), imm);
-            load(hart, ram, 1, Extension::Signed, at, rd, next)
+            let va = offset(hart.x(rs1), imm);
+            load(site, hart, memory, answers, 1, Extension::Signed, va, rd)
         }
         Insn::Lh { rd, rs1, imm } => {
-            let at = offset(hart.x(rs1), imm);
-            load(hart, ram, 2, Extension::Signed, at, rd, next)
+            let va = offset(hart.x(rs1), imm);
+            load(site, hart, memory, answers, 2, Extension::Signed, va, rd)
         }
         Insn::Lw { rd, rs1, imm } => {
-            let at = offset(hart.x(rs1), imm);
-            load(hart, ram, 4, Extension::Signed, at, rd, next)
+            let va = offset(hart.x(rs1), imm);
+            load(site, hart, memory, answers, 4, Extension::Signed, va, rd)
         }
         Insn::Ld { rd, rs1, imm } => {
-            let at = offset(hart.x(rs1), imm);
-            load(hart, ram, 8, Extension::Signed, at, rd, next)
+            let va = offset(hart.x(rs1), imm);
+            load(site, hart, memory, answers, 8, Extension::Signed, va, rd)
         }
         Insn::Lbu { rd, rs1, imm } => {
-            let at = offset(hart.x(rs1), imm);
-            load(hart, ram, 1, Extension::Unsigned, at, rd, next)
+            let va = offset(hart.x(rs1), imm);
+            load(site, hart, memory, answers, 1, Extension::Unsigned, va, rd)
         }
         Insn::Lhu { rd, rs1, imm } => {
-            let at = offset(hart.x(rs1), imm);
-            load(hart, ram, 2, Extension::Unsigned, at, rd, next)
+            let va = offset(hart.x(rs1), imm);
+            load(site, hart, memory, answers, 2, Extension::Unsigned, va, rd)
         }
         Insn::Lwu { rd, rs1, imm } => {
-            let at = offset(hart.x(rs1), imm);
-            load(hart, ram, 4, Extension::Unsigned, at, rd, next)
+            let va = offset(hart.x(rs1), imm);
+            load(site, hart, memory, answers, 4, Extension::Unsigned, va, rd)
         }
         Insn::Sb { rs1, rs2, imm } => {
-            let at = offset(hart.x(rs1), imm);
+            let va = offset(hart.x(rs1), imm);
             let value = hart.x(rs2);
-            hart.pc = next;
-            store_byte(h, at, value, ram, answers)
+            store(site, hart, memory, answers, 1, va, value)
         }
         Insn::Sh { rs1, rs2, imm } => {
-            let at = offset(hart.x(rs1), imm);
+            let va = offset(hart.x(rs1), imm);
             let value = hart.x(rs2);
-            hart.pc = next;
-            store(ram, 2, at, value)
+            store(site, hart, memory, answers, 2, va, value)
         }
         Insn::Sw { rs1, rs2, imm } => {
-            let at = offset(hart.x(rs1), imm);
+            let va = offset(hart.x(rs1), imm);
             let value = hart.x(rs2);
-            hart.pc = next;
-            store(ram, 4, at, value)
+            store(site, hart, memory, answers, 4, va, value)
         }
         Insn::Sd { rs1, rs2, imm } => {
-            let at = offset(hart.x(rs1), imm);
+            let va = offset(hart.x(rs1), imm);
             let value = hart.x(rs2);
-            hart.pc = next;
-            store(ram, 8, at, value)
+            store(site, hart, memory, answers, 8, va, value)
         }
         Insn::Addi { rd, rs1, imm } => compute_immediate(hart, BinOp::Add, rd, rs1, imm, next),
         Insn::Slti { rd, rs1, imm } => compute_immediate(hart, BinOp::Slt, rd, rs1, imm, next),
@@ -151,154 +150,121 @@ pub(crate) fn execute<A: Answers>(
         Insn::Remw { rd, rs1, rs2 } => multiply(hart, MulOp::Remw, rd, rs1, rs2, next),
         Insn::Remuw { rd, rs1, rs2 } => multiply(hart, MulOp::Remuw, rd, rs1, rs2, next),
         Insn::Fence | Insn::FenceI => pass(hart, next),
-        Insn::Csrrw { .. }
-        | Insn::Csrrs { .. }
-        | Insn::Csrrc { .. }
-        | Insn::Csrrwi { .. }
-        | Insn::Csrrsi { .. }
-        | Insn::Csrrci { .. }
-        | Insn::Ecall
-        | Insn::Ebreak
-        | Insn::Sret
-        | Insn::Mret
-        | Insn::Wfi
-        | Insn::Dret
-        | Insn::SfenceVma { .. }
-        | Insn::LrW { .. }
-        | Insn::LrD { .. }
-        | Insn::ScW { .. }
-        | Insn::AmoswapW { .. }
-        | Insn::AmoaddW { .. }
-        | Insn::AmoxorW { .. }
-        | Insn::AmoandW { .. }
-        | Insn::AmoorW { .. }
-        | Insn::AmominW { .. }
-        | Insn::AmomaxW { .. }
-        | Insn::AmominuW { .. }
-        | Insn::AmomaxuW { .. }
-        | Insn::ScD { .. }
-        | Insn::AmoswapD { .. }
-        | Insn::AmoaddD { .. }
-        | Insn::AmoxorD { .. }
-        | Insn::AmoandD { .. }
-        | Insn::AmoorD { .. }
-        | Insn::AmominD { .. }
-        | Insn::AmomaxD { .. }
-        | Insn::AmominuD { .. }
-        | Insn::AmomaxuD { .. } => unreachable!(),
-    }
-}
-
-/// Whether an instruction is built: loads and stores of aligned bytes of memory are, and the store of a
-/// byte to the console's data register; the control and status registers, the atomic and the privileged
-/// instructions are not.
-#[tactic(auto, unfolding(crate::specs::Step::effect))]
-pub(crate) fn is_built(insn: Insn, len: u8, hart: &Hart, ram: &GuestRam) -> bool
-    requires { IsInRange insn }
-    ensures { IsTrue result ↔ IsBuilt (effect nothing_given len insn hart.now ram.now) }
-{
-    match insn {
-        Insn::Lui { .. }
-        | Insn::Auipc { .. }
-        | Insn::Jal { .. }
-        | Insn::Jalr { .. }
-        | Insn::Beq { .. }
-        | Insn::Bne { .. }
-        | Insn::Blt { .. }
-        | Insn::Bge { .. }
-        | Insn::Bltu { .. }
-        | Insn::Bgeu { .. }
-        | Insn::Addi { .. }
-        | Insn::Slti { .. }
-        | Insn::Sltiu { .. }
-        | Insn::Xori { .. }
-        | Insn::Ori { .. }
-        | Insn::Andi { .. }
-        | Insn::Addiw { .. }
-        | Insn::Slli { .. }
-        | Insn::Srli { .. }
-        | Insn::Srai { .. }
-        | Insn::Slliw { .. }
-        | Insn::Srliw { .. }
-        | Insn::Sraiw { .. }
-        | Insn::Add { .. }
-        | Insn::Sub { .. }
-        | Insn::Sll { .. }
-        | Insn::Slt { .. }
-        | Insn::Sltu { .. }
-        | Insn::Xor { .. }
-        | Insn::Srl { .. }
-        | Insn::Sra { .. }
-        | Insn::Or { .. }
-        | Insn::And { .. }
-        | Insn::Addw { .. }
-        | Insn::Subw { .. }
-        | Insn::Sllw { .. }
-        | Insn::Srlw { .. }
-        | Insn::Sraw { .. }
-        | Insn::Mul { .. }
-        | Insn::Mulh { .. }
-        | Insn::Mulhsu { .. }
-        | Insn::Mulhu { .. }
-        | Insn::Div { .. }
-        | Insn::Divu { .. }
-        | Insn::Rem { .. }
-        | Insn::Remu { .. }
-        | Insn::Mulw { .. }
-        | Insn::Divw { .. }
-        | Insn::Divuw { .. }
-        | Insn::Remw { .. }
-        | Insn::Remuw { .. }
-        | Insn::Fence
-        | Insn::FenceI => true,
-        Insn::Lb { rs1, imm, .. } => reach(ram, offset(hart.x(rs1), imm), 1),
-        Insn::Lh { rs1, imm, .. } => reach(ram, offset(hart.x(rs1), imm), 2),
-        Insn::Lw { rs1, imm, .. } => reach(ram, offset(hart.x(rs1), imm), 4),
-        Insn::Ld { rs1, imm, .. } => reach(ram, offset(hart.x(rs1), imm), 8),
-        Insn::Lbu { rs1, imm, .. } => reach(ram, offset(hart.x(rs1), imm), 1),
-        Insn::Lhu { rs1, imm, .. } => reach(ram, offset(hart.x(rs1), imm), 2),
-        Insn::Lwu { rs1, imm, .. } => reach(ram, offset(hart.x(rs1), imm), 4),
-        Insn::Sh { rs1, imm, .. } => reach(ram, offset(hart.x(rs1), imm), 2),
-        Insn::Sw { rs1, imm, .. } => reach(ram, offset(hart.x(rs1), imm), 4),
-        Insn::Sd { rs1, imm, .. } => reach(ram, offset(hart.x(rs1), imm), 8),
-        Insn::Sb { rs1, imm, .. } => {
-            let at = offset(hart.x(rs1), imm);
-            ram.has(at, 1) || at == CONSOLE_DATA
+        Insn::Csrrw { rd, rs1, csr } => {
+            let value = hart.x(rs1);
+            write_csr(site, hart, answers, rd, csr, value)
         }
-        Insn::Csrrw { .. }
-        | Insn::Csrrs { .. }
-        | Insn::Csrrc { .. }
-        | Insn::Csrrwi { .. }
-        | Insn::Csrrsi { .. }
-        | Insn::Csrrci { .. }
-        | Insn::Ecall
-        | Insn::Ebreak
-        | Insn::Sret
-        | Insn::Mret
-        | Insn::Wfi
-        | Insn::Dret
-        | Insn::SfenceVma { .. }
-        | Insn::LrW { .. }
-        | Insn::LrD { .. }
-        | Insn::ScW { .. }
-        | Insn::AmoswapW { .. }
-        | Insn::AmoaddW { .. }
-        | Insn::AmoxorW { .. }
-        | Insn::AmoandW { .. }
-        | Insn::AmoorW { .. }
-        | Insn::AmominW { .. }
-        | Insn::AmomaxW { .. }
-        | Insn::AmominuW { .. }
-        | Insn::AmomaxuW { .. }
-        | Insn::ScD { .. }
-        | Insn::AmoswapD { .. }
-        | Insn::AmoaddD { .. }
-        | Insn::AmoxorD { .. }
-        | Insn::AmoandD { .. }
-        | Insn::AmoorD { .. }
-        | Insn::AmominD { .. }
-        | Insn::AmomaxD { .. }
-        | Insn::AmominuD { .. }
-        | Insn::AmomaxuD { .. } => false,
+        Insn::Csrrs { rd, rs1, csr } => {
+            let value = hart.x(rs1);
+            set_csr(site, hart, answers, rd, csr, rs1 != 0, value)
+        }
+        Insn::Csrrc { rd, rs1, csr } => {
+            let value = hart.x(rs1);
+            clear_csr(site, hart, answers, rd, csr, rs1 != 0, value)
+        }
+        Insn::Csrrwi { rd, uimm, csr } => {
+            write_csr(site, hart, answers, rd, csr, u64::from(uimm))
+        }
+        Insn::Csrrsi { rd, uimm, csr } => {
+            set_csr(site, hart, answers, rd, csr, uimm != 0, u64::from(uimm))
+        }
+        Insn::Csrrci { rd, uimm, csr } => {
+            clear_csr(site, hart, answers, rd, csr, uimm != 0, u64::from(uimm))
+        }
+        Insn::Ecall => Err(Exception::call(hart.effective_mode())),
+        Insn::Ebreak => Err(Exception::breakpoint(hart.pc)),
+        Insn::Sret => {
+            if hart.may_return_supervisor() {
+                return_supervisor(hart)
+            } else {
+                Err(Exception::illegal(site.word))
+            }
+        }
+        Insn::Mret => {
+            if hart.may_return_machine() {
+                return_machine(hart)
+            } else {
+                Err(Exception::illegal(site.word))
+            }
+        }
+        Insn::Wfi => {
+            if hart.may_wait() {
+                pass(hart, next)
+            } else {
+                Err(Exception::illegal(site.word))
+            }
+        }
+        Insn::Dret => {
+            if hart.is_in_debug() {
+                return_debug(hart)
+            } else {
+                Err(Exception::illegal(site.word))
+            }
+        }
+        Insn::SfenceVma { .. } => {
+            if hart.may_fence_translation() {
+                pass(hart, next)
+            } else {
+                Err(Exception::illegal(site.word))
+            }
+        }
+        Insn::LrW { rd, rs1 } => load_reserved(site, hart, memory, 4, rd, rs1),
+        Insn::LrD { rd, rs1 } => load_reserved(site, hart, memory, 8, rd, rs1),
+        Insn::ScW { rd, rs1, rs2 } => {
+            store_conditional(site, hart, memory, answers, 4, rd, rs1, rs2)
+        }
+        Insn::AmoswapW { rd, rs1, rs2 } => {
+            update(site, hart, memory, AmoOp::Swap, 4, rd, rs1, rs2)
+        }
+        Insn::AmoaddW { rd, rs1, rs2 } => {
+            update(site, hart, memory, AmoOp::Add, 4, rd, rs1, rs2)
+        }
+        Insn::AmoxorW { rd, rs1, rs2 } => {
+            update(site, hart, memory, AmoOp::Xor, 4, rd, rs1, rs2)
+        }
+        Insn::AmoandW { rd, rs1, rs2 } => {
+            update(site, hart, memory, AmoOp::And, 4, rd, rs1, rs2)
+        }
+        Insn::AmoorW { rd, rs1, rs2 } => { update(site, hart, memory, AmoOp::Or, 4, rd, rs1, rs2) }
+        Insn::AmominW { rd, rs1, rs2 } => {
+            update(site, hart, memory, AmoOp::Min, 4, rd, rs1, rs2)
+        }
+        Insn::AmomaxW { rd, rs1, rs2 } => {
+            update(site, hart, memory, AmoOp::Max, 4, rd, rs1, rs2)
+        }
+        Insn::AmominuW { rd, rs1, rs2 } => {
+            update(site, hart, memory, AmoOp::Minu, 4, rd, rs1, rs2)
+        }
+        Insn::AmomaxuW { rd, rs1, rs2 } => {
+            update(site, hart, memory, AmoOp::Maxu, 4, rd, rs1, rs2)
+        }
+        Insn::ScD { rd, rs1, rs2 } => {
+            store_conditional(site, hart, memory, answers, 8, rd, rs1, rs2)
+        }
+        Insn::AmoswapD { rd, rs1, rs2 } => {
+            update(site, hart, memory, AmoOp::Swap, 8, rd, rs1, rs2)
+        }
+        Insn::AmoaddD { rd, rs1, rs2 } => {
+            update(site, hart, memory, AmoOp::Add, 8, rd, rs1, rs2)
+        }
+        Insn::AmoxorD { rd, rs1, rs2 } => {
+            update(site, hart, memory, AmoOp::Xor, 8, rd, rs1, rs2)
+        }
+        Insn::AmoandD { rd, rs1, rs2 } => {
+            update(site, hart, memory, AmoOp::And, 8, rd, rs1, rs2)
+        }
+        Insn::AmoorD { rd, rs1, rs2 } => { update(site, hart, memory, AmoOp::Or, 8, rd, rs1, rs2) }
+        Insn::AmominD { rd, rs1, rs2 } => {
+            update(site, hart, memory, AmoOp::Min, 8, rd, rs1, rs2)
+        }
+        Insn::AmomaxD { rd, rs1, rs2 } => {
+            update(site, hart, memory, AmoOp::Max, 8, rd, rs1, rs2)
+        }
+        Insn::AmominuD { rd, rs1, rs2 } => {
+            update(site, hart, memory, AmoOp::Minu, 8, rd, rs1, rs2)
+        }
+        Insn::AmomaxuD { rd, rs1, rs2 } => {
+            update(site, hart, memory, AmoOp::Maxu, 8, rd, rs1, rs2)
+        }
     }
 }

@@ -1,18 +1,39 @@
-//! One step of a hart: fetch, decode and carry out one instruction of RV64, over a core of several
-//! harts that share one memory. `specs/Step.antt` defines the step, and [`Core::step`] is that step.
+//! One step of a hart: fetch, decode and carry out one instruction of RV64IMAC in machine, supervisor or user
+//! mode, or take a trap, over a core of several harts that share one memory. `specs/Step.antt` defines the
+//! step, and [`Core::step`] is that step.
 #![tactic(auto)]
 
+mod access;
 mod answers;
 mod arithmetic;
+mod atomic;
 mod control;
 mod cores;
+mod done;
 mod event;
+mod exception;
 mod execute;
 mod fetch;
+mod fit;
 mod hart;
 mod memory;
+mod mode;
+mod registers;
+mod stepping;
+mod system;
 #[cfg(test)]
 mod tests;
+#[cfg(test)]
+mod tests_atomic;
+#[cfg(test)]
+mod tests_memory;
+#[cfg(test)]
+mod tests_registers;
+#[cfg(test)]
+mod tests_traps;
+#[cfg(test)]
+mod tests_words;
+mod zicsr;
 
 pub use answers::Answers;
 pub use cores::{Core, NoMemory};

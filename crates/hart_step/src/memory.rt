@@ -1,128 +1,232 @@
-// Loads and stores.
+// Memory as the harts of a core reach it.
 
-ghost use Rattle.std.specs.Prelude.{◌≡◌, ◌%◌, ◌<◌, ◌↔◌, IsTrue};
+ghost use Rattle.std.specs.Prelude.{◌≡◌, ◌%◌, ◌^◌, ◌<◌, ◌*◌, ◌↔◌, IfOk, IsTrue, length, ◌≤◌, []};
 ghost use Rattle.byteorder.specs.Endian.{little_bytes};
 ghost use Rattle.guest_ram.specs.Bytes.{IsSize, number_at, with_part};
-ghost use Rattle.hart_step.specs.Harts.{IsFitHart};
-ghost use Rattle.hart_step.specs.Step.{after_access, byte_access, can_store_byte, extended_by, low_bytes, ram_after_byte, reaches, shows_store, shows_write, with_write};
+ghost use Rattle.hart_step.specs.Fit.{AreBytes};
+ghost use Rattle.hart_step.specs.Memory.{data_address, holds_bytes, most_rom, physical, ram_address, rom_holds, rom_number};
+ghost use Rattle.sv39_walk.specs.Remembered.{Agrees};
 
-use crate::answers::Answers;
-use crate::arithmetic::write;
-use crate::event::Put;
-use crate::execute::Done;
+use crate::exception::Exception;
+use crate::fit::see_bytes;
 use crate::hart::Hart;
-use guest_ram::GuestRam;
-use rv_alu::sext;
+use crate::mode::{MSTATUS_MXR, MSTATUS_SUM, has};
+use crate::registers::{mstatus, satp};
+use byteorder::{ByteOrder, LittleEndian};
+use guest_ram::{BASE, GuestRam, PageTable};
+use rv_alu::Mode;
+use std::marker::Model;
+use sv39_walk::{Ctx, Kind, Walker, agrees_kept};
 
-/// The console's data register.
-pub(crate) const CONSOLE_DATA: u64 = 0x1000_0000;
+/// The physical address of the first byte of the boot ROM.
+const ROM_BASE: u64 = 0x1_0000;
 
-/// What stands above the loaded bytes in a register.
-#[derive(Clone, Copy)]
-pub(crate) enum Extension {
-    /// Their sign.
-    Signed,
-    /// Zeros.
-    Unsigned,
+/// The RAM, the boot ROM, and the walker of the page tables in RAM.
+///
+/// Contracts see it as a `MemoryState`: the bytes of both.
+#[derive(Drop)]
+pub(crate) struct Memory {
+    ram: GuestRam,
+    rom: Vec<u8>,
+    walker: Walker,
 }
 
-/// Whether the `size` bytes from `at` are naturally aligned and all lie in memory.
-pub(crate) fn reach(ram: &GuestRam, at: u64, size: u8) -> bool
-    requires { IsSize size }
-    ensures { result ≡ reaches ram.now at size }
-{
-    ram.has(at, u64::from(size)) && at % u64::from(size) == 0
+impl Model for Memory {
+    ghost use Rattle.std.specs.Prelude.{◌≤◌, length};
+    ghost use Rattle.sv39_walk.specs.Remembered.{Agrees};
+    ghost use Rattle.hart_step.specs.Memory.{MemoryState, most_rom};
+
+    ghost Value = { MemoryState };
+
+    ghost view = { λ memory. record { ram = memory.ram; rom = memory.rom.items } };
+
+    ghost invariant = { λ memory. Agrees memory.walker memory.ram × (length memory.rom.items ≤ most_rom) };
 }
 
-/// A number of `size` loaded bytes as the value of a register.
-fn extended(extension: Extension, size: u8, value: u64) -> u64
-    requires { IsSize size }
-    ensures { result ≡ extended_by extension size value }
-{
-    match extension {
-        Extension::Signed => sext(value, 8 * size),
-        Extension::Unsigned => value,
+impl Memory {
+    /// This RAM and ROM, with a walker that has remembered nothing yet.
+    pub(crate) fn new(ram: GuestRam, rom: Vec<u8>, walker: Walker) -> Memory
+        requires agreed { Agrees walker ram }
+        requires small { length rom.items ≤ most_rom }
+        ensures ram { result.ram ≡ ram }
+        ensures rom { result.rom ≡ rom.items }
+    {
+        Memory { ram, rom, walker }
     }
-}
 
-/// Loads `size` bytes into a register.
-pub(crate) fn load(
-    hart: &mut Hart,
-    ram: &GuestRam,
-    size: u8,
-    extension: Extension,
-    at: u64,
-    rd: u8,
-    next: u64,
-) -> Done
-    requires register { rd < 32 }
-    requires size { IsSize size }
-    requires built { IsTrue (reaches ram.now at size) }
-    requires fit { IsFitHart hart.old }
-    requires even { next % 2 ≡ 0 }
-    ensures hart { hart.new ≡ with_write hart.old rd (extended_by extension size (number_at ram.now at size)) next }
-    ensures shown { result ≡ shows_write rd (extended_by extension size (number_at ram.now at size)) }
-    ensures fit { IsFitHart hart.new }
-{
-    let value = extended(extension, size, ram.read(at, size));
-    write(hart, rd, value, next)
-}
-
-/// What is shown of a store.
-fn stored(at: u64, size: u8, value: u64) -> Done
-    ensures { result ≡ shows_store at size value }
-{
-    Done {
-        rd: None,
-        st: Some(Put { at, size, value }),
-        dv: None,
-        vl: None,
+    /// The RAM.
+    #[inline(always)]
+    pub(crate) fn ram(&self) -> &GuestRam
+        ensures { result.now ≡ self.now.ram }
+    {
+        &self.ram
     }
-}
 
-/// The low `size` bytes of a value.
-fn low(size: u8, value: u64) -> u64
-    requires { IsSize size }
-    ensures { result ≡ low_bytes size value }
-{
-    match size {
-        1 => value % 0x100,
-        2 => value % 0x1_0000,
-        4 => value % 0x1_0000_0000,
-        _ => value,
+    /// The boot ROM.
+    pub(crate) fn rom(&self) -> &[u8]
+        ensures { result.now ≡ self.now.rom }
+    {
+        self.rom.as_slice()
     }
-}
 
-/// Stores the low `size` bytes of a value in memory.
-pub(crate) fn store(ram: &mut GuestRam, size: u8, at: u64, value: u64) -> Done
-    requires size { IsSize size }
-    requires built { IsTrue (reaches ram.old at size) }
-    ensures ram { ram.new ≡ with_part ram.old at (little_bytes size value) }
-    ensures shown { result ≡ shows_store at size (low_bytes size value) }
-{
-    ram.write(at, size, value);
-    stored(at, size, low(size, value))
-}
-
-/// Stores the low byte of a value in memory, or in a device.
-pub(crate) fn store_byte<A: Answers>(
-    h: u8,
-    at: u64,
-    value: u64,
-    ram: &mut GuestRam,
-    answers: &mut A,
-) -> Done
-    requires ready { A.ready answers.old }
-    requires built { IsTrue (can_store_byte ram.old at) }
-    ensures shown { result ≡ shows_store at 1 (value % 256) }
-    ensures ram { ram.new ≡ ram_after_byte ram.old at value }
-    ensures outside { answers.new ≡ after_access A.stored answers.old h ram.new (byte_access ram.old at value) }
-{
-    let byte = value % 256;
-    if ram.has(at, 1) {
-        ram.write(at, 1, byte);
-    } else {
-        answers.device_store(h, at, 1, byte, ram);
+    /// The bytes of the RAM are bytes.
+    pub(crate) fn see_bytes(&self)
+        ensures { AreBytes self.now.ram }
+    {
+        see_bytes(self.ram.part(BASE, self.ram.len()));
     }
-    stored(at, 1, byte)
+
+    /// Empties the boot ROM.
+    pub(crate) fn empty_rom(&mut self)
+        ensures { self.new ≡ record self.old { rom = [] } }
+    {
+        self.rom.clear();
+    }
+
+    /// The physical address of an access to `va` in a mode. Machine mode has no translation.
+    #[inline(always)]
+    #[tactic(auto, unfolding(sv39_walk::specs::Plain::translated))]
+    pub(crate) fn physical(
+        &mut self,
+        hart: &Hart,
+        mode: Mode,
+        kind: Kind,
+        va: u64,
+    ) -> Result<u64, Exception>
+        ensures address { result ≡ physical mode kind hart.now self.old.ram va }
+        ensures place { IfOk result (λ at. at % 4096 ≡ va % 4096) }
+        ensures same { self.new ≡ self.old }
+    {
+        match mode {
+            Mode::M => Ok(va),
+            Mode::S | Mode::U => self.translated(hart, mode, kind, va),
+        }
+    }
+
+    /// The physical address of an access to `va` in a mode, by the walker.
+    #[inline(always)]
+    fn translated(&mut self, hart: &Hart, mode: Mode, kind: Kind, va: u64) -> Result<u64, Exception>
+        ensures address { result ≡ physical mode kind hart.now self.old.ram va }
+        ensures place { IfOk result (λ at. at % 4096 ≡ va % 4096) }
+        ensures same { self.new ≡ self.old }
+    {
+        let status = mstatus(&hart.csrs);
+        let ctx = Ctx {
+            mode,
+            satp: satp(&hart.csrs),
+            sum: has(status, MSTATUS_SUM),
+            mxr: has(status, MSTATUS_MXR),
+        };
+        let mut table = PageTable::new(&self.ram);
+        match self.walker.translate(&mut table, ctx, va, kind) {
+            Ok(at) => Ok(at),
+            Err(fault) => Err(Exception::walk(kind, va, fault)),
+        }
+    }
+
+    /// The physical address of a data access of `size` bytes at `va`.
+    #[inline(always)]
+    pub(crate) fn data_address(
+        &mut self,
+        hart: &Hart,
+        kind: Kind,
+        size: u8,
+        va: u64,
+    ) -> Result<u64, Exception>
+        requires { IsSize size }
+        ensures address { result ≡ data_address kind size hart.now self.old.ram va }
+        ensures aligned { IfOk result (λ at. at % size ≡ 0) }
+        ensures same { self.new ≡ self.old }
+    {
+        if va % u64::from(size) != 0 {
+            return Err(Exception::misaligned(kind, va));
+        }
+        self.physical(hart, hart.data_mode(), kind, va)
+    }
+
+    /// The physical address of an access of `size` bytes that RAM alone answers.
+    #[inline(never)]
+    pub(crate) fn ram_address(
+        &mut self,
+        hart: &Hart,
+        kind: Kind,
+        size: u8,
+        va: u64,
+    ) -> Result<u64, Exception>
+        requires { IsSize size }
+        ensures address { result ≡ ram_address kind size hart.now self.old.ram va }
+        ensures aligned { IfOk result (λ at. at % size ≡ 0) }
+        ensures inside { IfOk result (λ at. IsTrue (holds_bytes self.old.ram at size)) }
+        ensures same { self.new ≡ self.old }
+    {
+        let at = self.data_address(hart, kind, size, va)?;
+        if self.ram.has(at, u64::from(size)) {
+            Ok(at)
+        } else {
+            Err(Exception::access(kind, va))
+        }
+    }
+
+    /// Whether the `size` bytes from `at` all lie in RAM.
+    #[inline(always)]
+    pub(crate) fn holds(&self, at: u64, size: u8) -> bool
+        ensures { result ≡ holds_bytes self.now.ram at size }
+    {
+        self.ram.has(at, u64::from(size))
+    }
+
+    /// The number in the `size` bytes from `at` in RAM.
+    #[inline(always)]
+    pub(crate) fn read(&self, at: u64, size: u8) -> u64
+        requires size { IsSize size }
+        requires inside { IsTrue (holds_bytes self.now.ram at size) }
+        requires aligned { at % size ≡ 0 }
+        ensures number { result ≡ number_at self.now.ram at size }
+        ensures fits { result < 256 ^ size }
+    {
+        self.ram.read(at, size)
+    }
+
+    /// Stores the low `size` bytes of `value` in RAM, and tells the walker.
+    #[inline(always)]
+    pub(crate) fn write(&mut self, at: u64, size: u8, value: u64)
+        requires size { IsSize size }
+        requires inside { IsTrue (holds_bytes self.old.ram at size) }
+        requires aligned { at % size ≡ 0 }
+        ensures stored { self.new ≡ record self.old { ram = with_part self.old.ram at (little_bytes size value) } }
+        ensures length { length self.new.ram ≡ length self.old.ram }
+        ensures rom { self.new.rom ≡ self.old.rom }
+    {
+        agrees_kept();
+        self.ram.write(at, size, value);
+        self.walker.noted(at, u64::from(size));
+    }
+
+    /// Whether the `size` bytes from `at` all lie in the ROM.
+    #[inline(never)]
+    pub(crate) fn rom_holds(&self, at: u64, size: u8) -> bool
+        ensures { result ≡ rom_holds self.now.rom at size }
+    {
+        at >= ROM_BASE
+            && at - ROM_BASE <= self.rom.len() as u64
+            && u64::from(size) <= self.rom.len() as u64 - (at - ROM_BASE)
+    }
+
+    /// The number in the `size` bytes from `at` in the ROM.
+    #[inline(never)]
+    pub(crate) fn rom_read(&self, at: u64, size: u8) -> u64
+        requires size { IsSize size }
+        requires inside { IsTrue (rom_holds self.now.rom at size) }
+        ensures number { result ≡ rom_number self.now.rom at size }
+        ensures fits { result < 256 ^ size }
+    {
+        let start = (at - ROM_BASE) as usize;
+        let bytes = &self.rom[start..start + size as usize];
+        match size {
+            1 => u64::from(bytes[0]),
+            2 => u64::from(LittleEndian::read_u16(bytes)),
+            4 => u64::from(LittleEndian::read_u32(bytes)),
+            _ => LittleEndian::read_u64(bytes),
+        }
+    }
 }

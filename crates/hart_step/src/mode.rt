@@ -1,0 +1,116 @@
+// The modes in which a hart makes its accesses, and what they allow.
+
+ghost use Rattle.std.specs.Prelude.{◌≡◌};
+ghost use Rattle.csr_file.specs.Access.{effective_mode};
+ghost use Rattle.trap_rules.specs.Status.{has, machine_previous};
+ghost use Rattle.hart_step.specs.Effects.{is_open, may_fence_translation, may_return_machine, may_return_supervisor, may_wait};
+ghost use Rattle.hart_step.specs.Memory.{data_mode};
+
+use crate::hart::Hart;
+use crate::registers::mstatus;
+use csr_file::masks::MSTATUS_TVM;
+use rv_alu::{Mode, bits};
+
+/// Bits of `mstatus` (Privileged ISA, "Machine Status Registers").
+pub(crate) const MSTATUS_MPRV: u64 = 0x2_0000;
+
+pub(crate) const MSTATUS_SUM: u64 = 0x4_0000;
+
+pub(crate) const MSTATUS_MXR: u64 = 0x8_0000;
+
+const MSTATUS_TW: u64 = 0x20_0000;
+
+const MSTATUS_TSR: u64 = 0x40_0000;
+
+/// Whether the word has a bit of the mask.
+pub(crate) fn has(word: u64, mask: u64) -> bool
+    ensures { result ≡ has word mask }
+{
+    word & mask != 0
+}
+
+/// The mode in MPP, bits 12:11.
+pub(crate) fn previous_mode(status: u64) -> Mode
+    ensures { result ≡ machine_previous status }
+{
+    match bits(status, 11, 2) {
+        3 => Mode::M,
+        1 => Mode::S,
+        _ => Mode::U,
+    }
+}
+
+impl Hart {
+    /// The mode in which the hart fetches and carries out instructions: debug mode counts as machine
+    /// mode.
+    #[inline(always)]
+    pub(crate) fn effective_mode(&self) -> Mode
+        ensures { result ≡ effective_mode self.now.csrs self.now.mode }
+    {
+        if self.is_in_debug() {
+            Mode::M
+        } else {
+            self.mode
+        }
+    }
+
+    /// The mode in which the hart loads and stores (Privileged ISA, "Memory Privilege in mstatus
+    /// Register").
+    #[inline(always)]
+    pub(crate) fn data_mode(&self) -> Mode
+        ensures { result ≡ data_mode self.now }
+    {
+        if self.is_in_debug() {
+            return Mode::M;
+        }
+        let status = mstatus(&self.csrs);
+        if has(status, MSTATUS_MPRV) {
+            previous_mode(status)
+        } else {
+            self.mode
+        }
+    }
+
+    /// Whether `mret` is legal now.
+    #[inline(never)]
+    pub(crate) fn may_return_machine(&self) -> bool
+        ensures { result ≡ may_return_machine self.now }
+    {
+        self.mode == Mode::M && !self.is_in_debug()
+    }
+
+    /// Whether `sret` is legal now.
+    #[inline(never)]
+    pub(crate) fn may_return_supervisor(&self) -> bool
+        ensures { result ≡ may_return_supervisor self.now }
+    {
+        is_open(MSTATUS_TSR, mstatus(&self.csrs), self.mode) && !self.is_in_debug()
+    }
+
+    /// Whether `wfi` is legal now.
+    #[inline(never)]
+    pub(crate) fn may_wait(&self) -> bool
+        ensures { result ≡ may_wait self.now }
+    {
+        self.effective_mode() == Mode::M || !has(mstatus(&self.csrs), MSTATUS_TW)
+    }
+
+    /// Whether `sfence.vma` is legal now.
+    #[inline(never)]
+    pub(crate) fn may_fence_translation(&self) -> bool
+        ensures { result ≡ may_fence_translation self.now }
+    {
+        is_open(MSTATUS_TVM, mstatus(&self.csrs), self.effective_mode())
+    }
+}
+
+/// Whether a mode may use what the bit `mask` of `mstatus` keeps from supervisor mode.
+pub(crate) fn is_open(mask: u64, status: u64, mode: Mode) -> bool
+    ensures { result ≡ is_open mask status mode }
+{
+    match mode {
+        Mode::U => false,
+        Mode::S => !has(status, mask),
+        Mode::M => true,
+    }
+}
