@@ -1,0 +1,47 @@
+-- What the board gives a step, where the manuals leave a choice, and what a step's device access makes of the board.
+use Rattle.std.specs.Prelude.{ℕ, ◌==◌, ◌||◌, true, bit_and, if◌then◌else◌, Option, List, [], unwrap_or}
+use Rattle.rv_alu.specs.declared.Mode.{Mode}
+use Rattle.csr_file.specs.declared.registers.Registers.{Registers}
+use Rattle.csr_file.specs.Numbers.{csr_cycle, csr_mcycle, csr_time}
+use Rattle.csr_file.specs.View.{volatile_bits}
+use Rattle.trap_rules.specs.Interrupt.{picked}
+use Rattle.board_bus.specs.Board.{BoardState, after_load, live, loaded, sent, stored}
+use Rattle.hart_step.specs.declared.hart.Hart.{Hart}
+use Rattle.hart_step.specs.Answers.{Access, Given, Loads, Stores, Untouched}
+
+-- the interrupt that is taken under the signals which the devices drive
+abbrev pub board_interrupt : BoardState → ℕ → Registers → Mode → Option ℕ
+board_interrupt b h csrs mode = picked csrs mode (live b h)
+
+-- what a device register answers to a load
+abbrev pub board_device : BoardState → ℕ → ℕ → ℕ
+board_device b at size = unwrap_or (loaded b at size) 0
+
+-- what a volatile register reads as: time is the board's timer, cycle and mcycle are the counter that the hart keeps,
+-- and of mip and sip the bits that devices drive
+abbrev pub board_volatile : BoardState → ℕ → ℕ → Registers → ℕ
+board_volatile b h number csrs =
+    if number == csr_time then b.clint.mtime
+    else if (number == csr_cycle) || (number == csr_mcycle) then csrs.mcycle
+    else bit_and (live b h) (volatile_bits number)
+
+-- what the board gives hart h; it lets each store-conditional win that may
+abbrev pub board_gives : BoardState → ℕ → Hart → Given
+board_gives b h hart = record {
+  interrupt = board_interrupt b h hart.csrs hart.mode;
+  device = board_device b;
+  volatile = λ number. board_volatile b h number hart.csrs;
+  may_win = true;
+}
+
+-- the board after a step's device access
+abbrev pub board_after : BoardState → Access → BoardState
+board_after b Untouched = b
+board_after b (Loads at size) = after_load b at size
+board_after b (Stores at size value) = stored b at size value
+
+-- the console bytes that a step's device access sends, out of this memory too
+abbrev pub sent_by : List ℕ → BoardState → Access → List ℕ
+sent_by ram b Untouched = []
+sent_by ram b (Loads at size) = []
+sent_by ram b (Stores at size value) = sent ram b at size value

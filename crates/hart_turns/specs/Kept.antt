@@ -1,0 +1,61 @@
+-- What the code keeps of a turn.
+use Rattle.std.specs.Prelude.{◌≡◌, ℕ, ◌+◌, ◌*◌, ◌≤◌, List, ◌++◌, All, length, vec_capacity, vec_len}
+use Rattle.board_bus.specs.Board.{after_load, hart_count, sent, stored}
+use Rattle.hart_step.specs.declared.event.Event.{Event}
+use Rattle.hart_step.specs.Events.{IsEvent}
+use Rattle.hart_turns.specs.declared.outside.Outside.{Outside}
+use Rattle.hart_turns.specs.declared.running.Running.{Running}
+use Rattle.sim_config.specs.declared.values.Shape.{Shape}
+use Rattle.hart_turns.specs.Machine.{FitsShape, MachineState}
+use Rattle.hart_turns.specs.Turn.{Progress}
+
+-- what stands around the harts after a load from a device register, and after a store to one
+abbrev pub outside_loaded : Outside → ℕ → ℕ → ℕ → Outside
+outside_loaded s h at size = record { board = after_load s.board at size; output = s.output }
+
+abbrev pub outside_stored : Outside → ℕ → ℕ → ℕ → ℕ → List ℕ → Outside
+outside_stored s h at size value ram = record {
+  board = stored s.board at size value;
+  output = record s.output { bytes = s.output.bytes ++ sent ram s.board at size value };
+}
+
+-- a machine, with the console bytes and the events of its last turn
+pub record MachineView : Type 0 where
+  pub machine : MachineState
+  pub console : List ℕ
+  pub events : List Event
+
+-- what is kept of the turn, as the definitions see it
+abbrev pub progress_of : Running → Progress
+progress_of r = record { core = r.core; board = r.outside.board; console = r.outside.output.bytes; events = r.events.items }
+
+-- what no step changes: how many harts there are, how long memory is, and the room of the buffers
+pub record KeepsForm (before after : Running) : Type 0 where
+  pub harts : length after.core.harts ≡ length before.core.harts
+  pub devices : hart_count after.outside.board ≡ hart_count before.outside.board
+  pub ram : length after.core.ram ≡ length before.core.ram
+  pub room : after.outside.output.room ≡ before.outside.output.room
+  pub capacity : vec_capacity after.events ≡ vec_capacity before.events
+
+-- there is room for so many more steps and for the host's word: each sends at most 256 bytes and shows one event
+pub record HasRoom (r : Running) (steps : ℕ) : Type 0 where
+  pub console : length r.outside.output.bytes + 256 * steps + 1 ≤ r.outside.output.room
+  pub events : vec_len r.events + steps + 1 ≤ vec_capacity r.events
+
+-- where all events of the turn are well formed before, they are so after
+abbrev pub StaysFormed : Running → Running → Type 0
+StaysFormed before after = All IsEvent before.events.items → All IsEvent after.events.items
+
+-- the machine has gone on to this progress in n steps
+pub record AfterSteps (before after : Running) (p : Progress) (n : ℕ) : Type 0 where
+  pub progress_is : progress_of after ≡ p
+  pub form : KeepsForm before after
+  pub console : length after.outside.output.bytes ≤ length before.outside.output.bytes + 256 * n
+  pub events : vec_len after.events ≡ vec_len before.events + n
+
+-- the parts of a machine fit its shape, its buffers have room for a turn, and each event is well formed
+pub record IsMachine (shape : Shape) (r : Running) : Type 0 where
+  pub fits : FitsShape shape r.core r.outside.board
+  pub console : 256 * (shape.harts * shape.slice) + 1 ≤ r.outside.output.room
+  pub events : shape.harts * shape.slice + 1 ≤ vec_capacity r.events
+  pub formed : All IsEvent r.events.items

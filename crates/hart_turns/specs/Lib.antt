@@ -1,0 +1,6 @@
+pub mod Machine
+pub mod Gives
+pub mod Turn
+pub mod Kept
+pub mod Fit
+pub mod Laws

@@ -1,0 +1,32 @@
+-- The whole machine: its shape, its harts with their memory, its devices, and how many input bytes it has taken.
+use Rattle.std.specs.Prelude.{◌≡◌, ℕ, Bool, List, is_none, length}
+use Rattle.sim_config.specs.declared.values.Shape.{Shape}
+use Rattle.sim_config.specs.Ranges.{IsShape}
+use Rattle.board_bus.specs.Board.{BoardState, hart_count, reset_board}
+use Rattle.hart_step.specs.Harts.{CoreState, lowest_in_debug, reset_core}
+
+pub record MachineState : Type 0 where
+  pub shape : Shape
+  pub core : CoreState
+  pub board : BoardState
+  pub taken : ℕ
+
+-- a machine at reset: its harts begin at the entry, its devices are at reset, and no input byte was taken
+abbrev pub reset_machine : Shape → List ℕ → ℕ → MachineState
+reset_machine shape ram entry = record {
+  shape = shape;
+  core = reset_core shape.harts ram entry;
+  board = reset_board shape.harts;
+  taken = 0;
+}
+
+-- a machine is running where no hart is in debug mode
+abbrev pub is_running : MachineState → Bool
+is_running m = is_none (lowest_in_debug m.core)
+
+-- the parts of a machine fit its shape, whose values keep their ranges
+pub record FitsShape (shape : Shape) (core : CoreState) (board : BoardState) : Type 0 where
+  pub shape_fit : IsShape shape
+  pub harts : length core.harts ≡ shape.harts
+  pub devices : hart_count board ≡ shape.harts
+  pub ram : length core.ram ≡ shape.ram

@@ -1,0 +1,14 @@
+//! The whole machine, turn by turn: the harts, their memory and their devices. `specs/Turn.antt` defines
+//! a turn, and [`Machine::turn`] is that turn.
+#![tactic(auto)]
+
+mod laws;
+mod machine;
+mod outside;
+mod registers;
+mod running;
+#[cfg(test)]
+mod tests;
+
+pub use laws::board_is_allowed;
+pub use machine::{Machine, NoMemory, TurnEnd};

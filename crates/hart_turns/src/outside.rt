@@ -1,0 +1,94 @@
+// What stands around the harts: the devices, and the buffer of the console's output.
+
+ghost use Rattle.std.specs.Prelude.{◌≡◌, ◌<◌};
+ghost use Rattle.csr_file.specs.View.{IsGiven};
+ghost use Rattle.csr_file.specs.declared.registers.Registers.{Registers};
+ghost use Rattle.board_bus.specs.Board.{hart_count};
+ghost use Rattle.hart_turns.specs.Gives.{board_volatile};
+
+use crate::registers::{mcycle, mie};
+use board_bus::Board;
+use console::OutBuf;
+use csr_file::CsrFile;
+use csr_file::numbers::{CYCLE, MCYCLE, TIME};
+use guest_ram::GuestRam;
+use hart_step::Answers;
+use rv_alu::Mode;
+use trap_rules::pick;
+
+/// The devices, and the console bytes that they have sent in this turn.
+#[derive(Drop)]
+pub(crate) struct Outside {
+    pub(crate) board: Board,
+    pub(crate) output: OutBuf,
+}
+
+impl Answers for Outside {
+    ghost use Rattle.std.specs.Prelude.{◌<◌, ◌≤◌, true};
+    ghost use Rattle.console.specs.Access.{most_sent};
+    ghost use Rattle.console.specs.Output.{spare_of};
+    ghost use Rattle.board_bus.specs.Board.{hart_count};
+    ghost use Rattle.hart_turns.specs.Kept.{outside_loaded, outside_stored};
+    ghost use Rattle.hart_turns.specs.Gives.{board_device, board_interrupt, board_volatile};
+
+    ghost ready = { λ s h. (h < hart_count s.board) × (most_sent ≤ spare_of s.output) };
+
+    ghost interrupts = { λ s h csrs mode. board_interrupt s.board h csrs mode };
+
+    ghost devices = { λ s h at size. board_device s.board at size };
+
+    ghost volatiles = { λ s h number csrs. board_volatile s.board h number csrs };
+
+    ghost wins = { λ s h. true };
+
+    ghost loaded = { λ s h at size. outside_loaded s h at size };
+
+    ghost stored = { λ s h at size value ram. outside_stored s h at size value ram };
+
+    #[tactic(auto, using(crate::proofs::Quiet::nothing_enabled), unfolding(csr_file::specs::View::volatile_bits))]
+    #[inline(always)]
+    fn interrupt(&mut self, hart: u8, csrs: &CsrFile, mode: Mode) -> Option<u8> {
+        // the devices' signals need not be gathered where none of them can matter
+        if mie(csrs) == 0 {
+            return None;
+        }
+        pick(csrs, mode, self.board.live(hart))
+    }
+
+    #[inline(never)]
+    fn device_load(&mut self, _hart: u8, at: u64, size: u8) -> u64 {
+        match self.board.load(at, size) {
+            Ok(value) => value,
+            Err(_) => 0,
+        }
+    }
+
+    #[inline(never)]
+    fn device_store(&mut self, _hart: u8, at: u64, size: u8, value: u64, ram: &GuestRam) {
+        let _ = self.board.store(at, size, value, ram, &mut self.output);
+    }
+
+    #[inline(never)]
+    fn volatile(&mut self, hart: u8, num: u16, csrs: &CsrFile) -> u64 {
+        volatile_word(&self.board, hart, num, csrs)
+    }
+
+    fn sc_may_win(&mut self, _hart: u8) -> bool {
+        true
+    }
+}
+
+/// What a volatile register reads as.
+#[tactic(auto, unfolding(csr_file::specs::View::volatile_bits))]
+#[inline(never)]
+fn volatile_word(board: &Board, hart: u8, num: u16, csrs: &CsrFile) -> u64
+    requires { hart < hart_count board.now }
+    ensures word { result ≡ board_volatile board.now hart num csrs.now }
+    ensures within { IsGiven num result }
+{
+    match num {
+        TIME => board.time(),
+        CYCLE | MCYCLE => mcycle(csrs),
+        _ => board.live(hart) & CsrFile::volatile_mask(num),
+    }
+}

@@ -1,0 +1,19 @@
+// The registers that the board looks at.
+#![tactic(auto, unfolding(csr_file::specs::Legal::keeps_value, csr_file::specs::Legal::slots, csr_file::specs::Legal::kept_slots, csr_file::specs::Kept::kept_value, csr_file::specs::Numbers::is_listed))]
+
+ghost use Rattle.std.specs.Prelude.{◌≡◌};
+
+use csr_file::CsrFile;
+use csr_file::numbers::{MCYCLE, MIE};
+
+pub(crate) fn mcycle(csrs: &CsrFile) -> u64
+    ensures { result ≡ csrs.now.mcycle }
+{
+    csrs.kept(MCYCLE)
+}
+
+pub(crate) fn mie(csrs: &CsrFile) -> u64
+    ensures { result ≡ csrs.now.mie }
+{
+    csrs.kept(MIE)
+}
