@@ -1,0 +1,112 @@
+// The buffer of one line, and the parts of lines that are written into it.
+
+ghost use Rattle.std.specs.Prelude.{◌≡◌, ◌+◌, ◌<◌, ◌≤◌, ◌∷◌, ◌++◌, [], length};
+ghost use Rattle.commit_log.specs.Spelling.{hex, hex_digit, number, word};
+
+use std::marker::Model;
+
+/// A line without its newline, of at most 255 bytes.
+///
+/// Contracts see it as the list of its bytes.
+#[derive(Drop)]
+pub struct LineBuf {
+    bytes: [u8; 255],
+    len: usize,
+}
+
+impl Model for LineBuf {
+    ghost use Rattle.std.specs.Prelude.{ℕ, ◌≤◌, List, take};
+
+    ghost Value = { List ℕ };
+
+    ghost view = { λ buf. take buf.len buf.bytes };
+
+    ghost invariant = { λ buf. buf.len ≤ 255 };
+}
+
+impl LineBuf {
+    /// An empty line.
+    pub fn new() -> LineBuf
+        ensures { result ≡ [] }
+    {
+        LineBuf {
+            bytes: [0; 255],
+            len: 0,
+        }
+    }
+
+    /// The bytes of the line.
+    pub fn bytes(&self) -> &[u8]
+        ensures value { result.now ≡ self.now }
+        ensures short { length result.now ≤ 255 }
+    {
+        &self.bytes[..self.len]
+    }
+
+    /// Leaves an empty line.
+    pub(crate) fn empty(&mut self)
+        ensures { self.new ≡ [] }
+    {
+        self.len = 0;
+    }
+
+    /// Appends a character.
+    pub(crate) fn put(&mut self, c: u8)
+        requires { length self.old + 1 ≤ 255 }
+        ensures value { self.new ≡ self.old ++ c ∷ [] }
+        ensures length { length self.new ≡ length self.old + 1 }
+    {
+        self.bytes[self.len] = c;
+        self.len += 1;
+    }
+
+    /// Appends the `count` lowest hexadecimal digits of a number, the highest of them first.
+    fn put_hex(&mut self, count: u8, value: u64)
+        requires digits { count ≤ 16 }
+        requires room { length self.old + count ≤ 255 }
+        ensures value { self.new ≡ self.old ++ hex count value }
+        ensures length { length self.new ≡ length self.old + count }
+    {
+        for place in (0..count).rev() {
+            self.put(hex_digit((value >> (4 * place)) % 16));
+        }
+    }
+
+    /// Appends a space and `count` hexadecimal digits.
+    #[tactic(auto, unfolding(crate::specs::Spelling::word))]
+    pub(crate) fn put_word(&mut self, count: u8, value: u64)
+        requires digits { count ≤ 16 }
+        requires room { length self.old + (count + 1) ≤ 255 }
+        ensures value { self.new ≡ self.old ++ word count value }
+        ensures length { length self.new ≡ length self.old + (count + 1) }
+    {
+        self.put(b' ');
+        self.put_hex(count, value);
+    }
+
+    /// Appends a decimal number below 100.
+    #[tactic(auto, unfolding(crate::specs::Spelling::number))]
+    pub(crate) fn put_number(&mut self, n: u8)
+        requires small { n < 100 }
+        requires room { length self.old + 2 ≤ 255 }
+        ensures value { self.new ≡ self.old ++ number n }
+        ensures length { length self.new ≤ length self.old + 2 }
+    {
+        if n >= 10 {
+            self.put(b'0' + n / 10);
+        }
+        self.put(b'0' + n % 10);
+    }
+}
+
+/// A lower-case hexadecimal digit.
+fn hex_digit(digit: u64) -> u8
+    requires { digit < 16 }
+    ensures { result ≡ hex_digit digit }
+{
+    if digit < 10 {
+        b'0' + digit as u8
+    } else {
+        b'a' + (digit as u8 - 10)
+    }
+}
