@@ -1,8 +1,9 @@
 -- One more hexadecimal digit.
 use Rattle.std.proofs.Common.{◌≡◌, ℕ, zero, suc, ◌-◌, ◌*◌, ◌/◌, ◌%◌, ◌^◌, ◌<◌, List, [], ◌∷◌, ◌++◌, append_assoc, refl, sym, ap, ◌∙◌, arith}
-use Rattle.dromajo.specs.Report.{hex, hex_digit}
+use Rattle.commit_log.specs.Spelling.{hex, hex_digit}
 
 hex_first : (place value : ℕ) → 0 < place → hex place value ≡ hex_digit (value / 2 ^ (4 * (place - 1)) % 16) ∷ hex (place - 1) value
+unfolding hex
 hex_first zero value above = absurd (omega arith)
 hex_first (suc n) value above = let e : suc n - 1 ≡ n = omega arith in rw e refl
 

@@ -1,147 +1,176 @@
--- A run, one turn more of it, and what stands in the console on the way.
-use Rattle.std.proofs.Common.{◌≡◌, ℕ, zero, suc, ◌+◌, ◌-◌, ◌≤◌, List, [], ◌++◌, take, drop, length, Option, Some, None, IsSome, refl, sym, ap, subst, ◌∙◌, add-one, append_assoc, arith}
-use Rattle.std.proofs.lemmas.List.{append-nil, take-append-drop, take_at}
-use Rattle.std.specs.Io.KnownBytes.{Appends}
-use Rattle.hart_step.specs.Harts.{CoreState}
-use Rattle.hart_step.specs.Step.{not_built, nothing_given, step}
-use Rattle.dromajo.specs.declared.status.Status.{Status}
-use Rattle.dromajo.specs.Machine.{Ran, at_start, flat_slice, next_step, sent_by, step_unless, steps, turns}
-use Rattle.dromajo.specs.Run.{AppendsFront, Follows, IsRun, TurnIsCut, TurnIsShown, TurnSent, stop_status}
-use Rattle.dromajo.proofs.Turns.{steps_stay}
+-- A run, one turn more of it, and what stands on the way.
+use Rattle.std.proofs.Common.{◌≡◌, ◌≢◌, ◌⊎◌, inl, inr, IsFalse, ℕ, zero, suc, ◌+◌, ◌-◌, ◌≤◌, List, [], ◌++◌, Option, Some, None, refl, sym, ap, subst, ◌∙◌, append_assoc, add-one, arith}
+use Rattle.std.proofs.lemmas.List.{append-nil}
+use Rattle.outside_io.specs.Content.{Held, Told}
+use Rattle.hart_turns.specs.declared.machine.TurnEnd.{TurnEnd}
+use Rattle.hart_turns.specs.declared.machine.TurnEnd.TheVariants.{Goes, Ended, BadHost}
+use Rattle.hart_turns.specs.Machine.{MachineState}
+use Rattle.dromajo.specs.declared.feed.Feed.{Feed}
+use Rattle.dromajo.specs.Feeding.{AddsLines, AppendsFront, HoldsTrace, IsFed, IsShown}
+use Rattle.dromajo.specs.Run.{Ran, after_turn, at_start, goes_on, run, trace_lines, turn_on}
+use Rattle.dromajo.specs.Standing.{IsWritten, StandsAt}
+use Rattle.dromajo.proofs.Fronts.{BeginsWith, appends_both, appends_none, begins_itself, begins_more, front_of, then_front}
+use Rattle.dromajo.proofs.Lines.{lines_joined, no_lines}
 
--- ---- appending
+-- ---- files
 
-pub appends_none : (told : Option (List ℕ)) → Appends told told []
-appends_none None = tt
-appends_none (Some xs) = sym (append-nil xs)
+pub add_none : (trace : Option (List ℕ)) (held : Held) → AddsLines trace [] held held
+add_none None held = λ start front holds. holds
+add_none (Some name) held = λ start front holds. (holds.0 ∙ ap (λ (zs : List ℕ). Some zs) (sym (append-nil front)), holds.1)
 
-pub appends_both : (a b c : Option (List ℕ)) (xs ys : List ℕ) → Appends a b xs → Appends b c ys → Appends a c (xs ++ ys)
-appends_both None b c xs ys first second = tt
-appends_both (Some ws) None c xs ys first second = absurd first
-appends_both (Some ws) (Some vs) None xs ys first second = absurd second
-appends_both (Some ws) (Some vs) (Some us) xs ys first second = second ∙ ap (λ (zs : List ℕ). zs ++ ys) first ∙ append_assoc ws xs ys
+pub adds_both : (trace : Option (List ℕ)) (xs ys : List ℕ) (a b c : Held) → AddsLines trace xs a b → AddsLines trace ys b c → AddsLines trace (xs ++ ys) a c
+adds_both trace xs ys a b c first second = λ start front holds.
+    subst (λ (zs : List ℕ). HoldsTrace trace zs start c) (append_assoc front xs ys) (second start (front ++ xs) (first start front holds))
 
--- ---- the console of a machine only grows
+pub files_none : (trace : Option (List ℕ)) (told : Option Held) → Told told told (AddsLines trace (trace_lines []))
+files_none trace None = tt
+files_none trace (Some held) = subst (λ (zs : List ℕ). AddsLines trace zs held held) (sym no_lines) (add_none trace held)
 
--- the bytes begin with these
-abbrev pub BeginsWith : List ℕ → List ℕ → Type 0
-BeginsWith bytes front = (more : List ℕ) × (bytes ≡ front ++ more)
+pub files_both : (trace : Option (List ℕ)) (xs ys : List ℕ) (a b c : Option Held) → Told a b (AddsLines trace xs) → Told b c (AddsLines trace ys) → Told a c (AddsLines trace (xs ++ ys))
+files_both trace xs ys None b c first second = tt
+files_both trace xs ys (Some x) None c first second = absurd first
+files_both trace xs ys (Some x) (Some y) None first second = absurd second
+files_both trace xs ys (Some x) (Some y) (Some z) first second = adds_both trace xs ys x y z first second
 
-begins_more : (a b c : List ℕ) → BeginsWith b a → BeginsWith c b → BeginsWith c a
-begins_more a b c (xs, first) (ys, second) = (xs ++ ys, second ∙ ap (λ (zs : List ℕ). zs ++ ys) first ∙ append_assoc a xs ys)
+-- ---- runs
 
-next_grows : (ran : Ran) (stop : Option (ℕ × ℕ)) → BeginsWith (next_step ran stop).console ran.console
-next_grows ran None = (sent_by (step nothing_given ran.core 0).access, refl)
-next_grows ran (Some s) = ([], sym (append-nil ran.console))
+pub run_none : (bytes : List ℕ) (start : MachineState) → run bytes start 0 ≡ at_start start
+unfolding run
+run_none bytes start = refl
 
-step_grows : (ran : Ran) (stop : Option (ℕ × ℕ)) → BeginsWith (step_unless ran stop).console ran.console
-step_grows ran None = next_grows ran (not_built ran.core 0)
-step_grows ran (Some s) = ([], sym (append-nil ran.console))
+run_next : (bytes : List ℕ) (start : MachineState) (k : ℕ) → run bytes start (k + 1) ≡ goes_on bytes (run bytes start k) (run bytes start k).last
+unfolding run
+run_next bytes start k = rw add-one refl
 
-steps_grow : (n : ℕ) (ran : Ran) → BeginsWith (steps n ran).console ran.console
-unfolding steps
-steps_grow zero ran = ([], sym (append-nil ran.console))
-steps_grow (suc n) ran = begins_more _ _ _ (steps_grow n ran) (step_grows (steps n ran) (steps n ran).stop)
+pub run_more : (bytes : List ℕ) (start : MachineState) (k : ℕ) → (run bytes start k).last ≡ Goes → run bytes start (k + 1) ≡ after_turn (run bytes start k) (turn_on bytes (run bytes start k).machine)
+run_more bytes start k goes = run_next bytes start k ∙ ap (goes_on bytes (run bytes start k)) goes
 
-turns_grow : (k m : ℕ) (ran : Ran) → BeginsWith (turns (m + k) ran).console (turns k ran).console
-unfolding turns
-turns_grow k zero ran = let none : 0 + k ≡ k = omega arith in ([], rw none (sym (append-nil (turns k ran).console)))
-turns_grow k (suc m) ran =
-    let more : suc m + k ≡ suc (m + k) = omega arith in
-    rw more (begins_more _ _ _ (turns_grow k m ran) (steps_grow flat_slice (turns (m + k) ran)))
+stays : (bytes : List ℕ) (ran : Ran) (end : TurnEnd) → end ≢ Goes → goes_on bytes ran end ≡ ran
+stays bytes ran Goes ends = absurd (ends refl)
+stays bytes ran (Ended code) ends = refl
+stays bytes ran (BadHost word) ends = refl
 
-pub console_grows : (k n : ℕ) (ran : Ran) → k ≤ n → BeginsWith (turns n ran).console (turns k ran).console
-console_grows k n ran within =
+run_stays : (bytes : List ℕ) (start : MachineState) (k m : ℕ) → (run bytes start k).last ≢ Goes → run bytes start (m + k) ≡ run bytes start k
+run_stays bytes start k zero ends = ap (λ (n : ℕ). run bytes start n) (omega arith)
+run_stays bytes start k (suc m) ends =
+    let more : suc m + k ≡ (m + k) + 1 = omega arith in
+    let before : run bytes start (m + k) ≡ run bytes start k = run_stays bytes start k m ends in
+    ap (λ (n : ℕ). run bytes start n) more ∙ run_next bytes start (m + k)
+    ∙ ap (λ (r : Ran). goes_on bytes r r.last) before ∙ stays bytes (run bytes start k) (run bytes start k).last ends
+
+pub ended_run : (bytes : List ℕ) (start : MachineState) (k n : ℕ) → k ≤ n → (run bytes start k).last ≢ Goes → run bytes start n ≡ run bytes start k
+ended_run bytes start k n within ends =
+    let whole : n ≡ n - k + k = omega arith in
+    ap (λ (m : ℕ). run bytes start m) whole ∙ run_stays bytes start k (n - k) ends
+
+grows_on : (bytes : List ℕ) (ran : Ran) (end : TurnEnd) → BeginsWith (goes_on bytes ran end).console ran.console
+grows_on bytes ran Goes = ((turn_on bytes ran.machine).console, refl)
+grows_on bytes ran (Ended code) = begins_itself ran.console
+grows_on bytes ran (BadHost word) = begins_itself ran.console
+
+run_grows : (bytes : List ℕ) (start : MachineState) (k m : ℕ) → BeginsWith (run bytes start (m + k)).console (run bytes start k).console
+run_grows bytes start k zero = let same : zero + k ≡ k = omega arith in subst (λ (n : ℕ). BeginsWith (run bytes start n).console (run bytes start k).console) (sym same) (begins_itself (run bytes start k).console)
+run_grows bytes start k (suc m) =
+    let more : (m + k) + 1 ≡ suc m + k = omega arith in
+    let next : BeginsWith (run bytes start ((m + k) + 1)).console (run bytes start (m + k)).console = subst (λ (r : Ran). BeginsWith r.console (run bytes start (m + k)).console) (sym (run_next bytes start (m + k))) (grows_on bytes (run bytes start (m + k)) (run bytes start (m + k)).last) in
+    subst (λ (n : ℕ). BeginsWith (run bytes start n).console (run bytes start k).console) more
+    (begins_more (run bytes start k).console (run bytes start (m + k)).console (run bytes start ((m + k) + 1)).console (run_grows bytes start k m) next)
+
+pub console_grows : (bytes : List ℕ) (start : MachineState) (k n : ℕ) → k ≤ n → BeginsWith (run bytes start n).console (run bytes start k).console
+console_grows bytes start k n within =
     let whole : n - k + k ≡ n = omega arith in
-    subst (λ (m : ℕ). BeginsWith (turns m ran).console (turns k ran).console) whole (turns_grow k (n - k) ran)
+    subst (λ (m : ℕ). BeginsWith (run bytes start m).console (run bytes start k).console) whole (run_grows bytes start k (n - k))
 
--- ---- turns
+-- ---- on the way
 
-pub no_turns : (ran : Ran) → turns 0 ran ≡ ran
-unfolding turns
-no_turns ran = refl
+pub stands_first : (bytes : List ℕ) (start : MachineState) (feed : Feed) (left : Option (List ℕ)) (trace : Option (List ℕ)) (out : Option (List ℕ)) (held : Option Held) → start.taken ≡ 0 → left ≡ Some bytes → IsFed bytes 0 feed (Some bytes) → StandsAt bytes start 0 start feed left trace out out held held
+unfolding run
+stands_first bytes start feed left trace out held fresh told fed = record {
+  machine_is = refl;
+  goes = refl;
+  made = refl;
+  fed = subst (λ (n : ℕ). IsFed bytes n feed left) (sym fresh) (subst (λ (l : Option (List ℕ)). IsFed bytes 0 feed l) (sym told) fed);
+  written = record { console = appends_none out; files = files_none trace held; read = told };
+  later = λ j most. let none : j ≡ 0 = omega (arith, most) in subst (λ (i : ℕ). (run bytes start i).machine.taken ≤ start.taken) (sym none) (omega arith);
+  took = λ none goes j before. absurd (omega (arith, before));
+}
 
-pub one_turn : (n : ℕ) (ran : Ran) → turns (n + 1) ran ≡ steps flat_slice (turns n ran)
-unfolding turns
-one_turn n ran = rw add-one refl
+-- a turn up to the next one is one up to now, or the next
+up_to_next : (j k : ℕ) → j ≤ k + 1 → (j ≤ k) ⊎ (j ≡ k + 1)
+up_to_next zero k most = inl (omega arith)
+up_to_next (suc j) zero most = inr (omega (arith, most))
+up_to_next (suc j) (suc k) most = elim (up_to_next j k (omega (arith, most))) [
+  | inl here ↦ inl (omega (arith, here))
+  | inr next ↦ inr (omega (arith, next))
+]
 
-stopped_turn : (ran : Ran) → IsSome ran.stop → steps flat_slice ran ≡ ran
-unfolding steps
-stopped_turn ran some = steps_stay 0 flat_slice ran some
-
-turns_stay : (k m : ℕ) (ran : Ran) → IsSome (turns k ran).stop → turns (m + k) ran ≡ turns k ran
-unfolding turns
-turns_stay k zero ran some = let none : 0 + k ≡ k = omega arith in rw none refl
-turns_stay k (suc m) ran some =
-    let more : suc m + k ≡ suc (m + k) = omega arith in
-    rw more (ap (steps flat_slice) (turns_stay k m ran some) ∙ stopped_turn (turns k ran) some)
-
-pub stopped_run : (k n : ℕ) (ran : Ran) → k ≤ n → IsSome (turns k ran).stop → turns n ran ≡ turns k ran
-stopped_run k n ran within some =
-    let whole : n - k + k ≡ n = omega arith in
-    ap (λ (m : ℕ). turns m ran) (sym whole) ∙ turns_stay k (n - k) ran some
-
--- ---- a run on its way
-
--- after k turns none of which stopped: the core, and the bytes written since the run began
-pub record StandsAt (start : CoreState) (k : ℕ) (core : CoreState) (out_before out_now : Option (List ℕ)) : Type 0 where
-  pub core_is : core ≡ (turns k (at_start start)).core
-  pub goes : (turns k (at_start start)).stop ≡ None
-  pub written : Appends out_before out_now (turns k (at_start start)).console
-
-pub stands_first : (start : CoreState) (out : Option (List ℕ)) → StandsAt start 0 start out out
-unfolding turns
-stands_first start out = record { core_is = refl; goes = refl; written = appends_none out }
-
--- the machine after one turn more
-shown_next : (start : CoreState) (k : ℕ) (old new : CoreState) (out mid : Option (List ℕ)) (stop : Option (ℕ × ℕ)) (sent : List ℕ) → StandsAt start k old out mid → TurnSent old new stop sent → Follows (turns (k + 1) (at_start start)) (turns k (at_start start)).console new sent stop
-shown_next start k old new out mid stop sent stands follows =
-    let ran : Ran = turns k (at_start start) in
-    subst (λ (m : Ran). Follows m ran.console new sent stop) (sym (one_turn k (at_start start))) (follows ran (sym stands.core_is) stands.goes)
-
-pub stands_next : (start : CoreState) (k : ℕ) (old new : CoreState) (out mid now : Option (List ℕ)) → StandsAt start k old out mid → TurnIsShown old new None mid now → StandsAt start (k + 1) new out now
-stands_next start k old new out mid now stands shown =
-    let next = shown_next start k old new out mid None shown.sent stands shown.follows in
+-- what is written and read after one turn more
+written_next : (bytes : List ℕ) (ran : Ran) (m now : MachineState) (end : TurnEnd) (feed : Feed) (mid left : Option (List ℕ)) (trace : Option (List ℕ)) (out out' out'' : Option (List ℕ)) (held held' held'' : Option Held) → m ≡ ran.machine → IsWritten bytes ran mid trace out out' held held' → IsShown bytes m now end feed left trace out' out'' held' held'' → IsWritten bytes (after_turn ran (turn_on bytes ran.machine)) left trace out out'' held held''
+written_next bytes ran m now end feed mid left trace out out' out'' held held' held'' is written shown =
+    let here : IsShown bytes ran.machine now end feed left trace out' out'' held' held'' = subst (λ (x : MachineState). IsShown bytes x now end feed left trace out' out'' held' held'') is shown in
     record {
-      core_is = next.core_is;
-      goes = sym next.stop_is;
-      written = subst (λ (bytes : List ℕ). Appends out now bytes) (sym next.console) (appends_both out mid now _ _ stands.written shown.written);
+      console = appends_both out out' out'' ran.console (turn_on bytes ran.machine).console written.console here.console;
+      files = subst (λ (zs : List ℕ). Told held held'' (AddsLines trace zs)) (sym (lines_joined ran.events (turn_on bytes ran.machine).events))
+          (files_both trace (trace_lines ran.events) (trace_lines (turn_on bytes ran.machine).events) held held' held'' written.files here.files);
+      read = here.read;
     }
 
--- a run that stops in its next turn
-pub stops_next : (start : CoreState) (k n : ℕ) (old new : CoreState) (out mid now : Option (List ℕ)) (stop : ℕ × ℕ) → k + 1 ≤ n → StandsAt start k old out mid → TurnIsShown old new (Some stop) mid now → IsRun (turns n (at_start start)) (stop_status (Some stop)) out now
-stops_next start k n old new out mid now stop within stands shown =
-    let next = shown_next start k old new out mid (Some stop) shown.sent stands shown.follows in
-    let last : Ran = turns (k + 1) (at_start start) in
-    let some : IsSome last.stop = subst (λ (s : Option (ℕ × ℕ)). IsSome s) next.stop_is refl in
-    let same : turns n (at_start start) ≡ last = stopped_run (k + 1) n (at_start start) within some in
-    let run : IsRun last (stop_status (Some stop)) out now = record {
-      status_is = ap stop_status next.stop_is;
-      written = subst (λ (bytes : List ℕ). Appends out now bytes) (sym next.console) (appends_both out mid now _ _ stands.written shown.written);
-    } in
-    subst (λ (m : Ran). IsRun m (stop_status (Some stop)) out now) (sym same) run
+-- the run after one turn more, of which this is the end
+pub record Next (bytes : List ℕ) (start : MachineState) (k : ℕ) (now : MachineState) (end : TurnEnd) (feed : Feed) (left : Option (List ℕ)) (trace : Option (List ℕ)) (out out'' : Option (List ℕ)) (held held'' : Option Held) : Type 0 where
+  pub machine_is : now ≡ (run bytes start (k + 1)).machine
+  pub end_is : end ≡ (run bytes start (k + 1)).last
+  pub made : (run bytes start (k + 1)).made ≡ k + 1
+  pub fed : IsFed bytes now.taken feed left
+  pub written : IsWritten bytes (run bytes start (k + 1)) left trace out out'' held held''
 
-pub runs_whole : (start : CoreState) (n : ℕ) (core : CoreState) (out now : Option (List ℕ)) → StandsAt start n core out now → IsRun (turns n (at_start start)) (stop_status None) out now
-runs_whole start n core out now stands = record { status_is = ap stop_status (sym stands.goes); written = stands.written }
+pub next_turn : (bytes : List ℕ) (start : MachineState) (k : ℕ) (m now : MachineState) (end : TurnEnd) (feed feed' : Feed) (mid left : Option (List ℕ)) (trace : Option (List ℕ)) (out out' out'' : Option (List ℕ)) (held held' held'' : Option Held) → StandsAt bytes start k m feed mid trace out out' held held' → IsShown bytes m now end feed' left trace out' out'' held' held'' → Next bytes start k now end feed' left trace out out'' held held''
+next_turn bytes start k m now end feed feed' mid left trace out out' out'' held held' held'' stands shown =
+    let more = run_more bytes start k stands.goes in
+    let ran : Ran = run bytes start k in
+    let here = subst (λ (x : MachineState). IsShown bytes x now end feed' left trace out' out'' held' held'') stands.machine_is shown in
+    record {
+      machine_is = here.machine_is ∙ sym (ap (λ (r : Ran). r.machine) more);
+      end_is = here.end_is ∙ sym (ap (λ (r : Ran). r.last) more);
+      made = ap (λ (r : Ran). r.made) more ∙ ap (λ (n : ℕ). n + 1) stands.made;
+      fed = here.fed;
+      written = subst (λ (r : Ran). IsWritten bytes r left trace out out'' held held'') (sym more) (written_next bytes ran m now end feed' mid left trace out out' out'' held held' held'' stands.machine_is stands.written shown);
+    }
+
+-- no turn up to the next one had taken more
+later_next : (bytes : List ℕ) (start : MachineState) (k : ℕ) (m now : MachineState) → ((j : ℕ) → j ≤ k → (run bytes start j).machine.taken ≤ m.taken) → m.taken ≤ now.taken → now ≡ (run bytes start (k + 1)).machine → (j : ℕ) → j ≤ k + 1 → (run bytes start j).machine.taken ≤ now.taken
+later_next bytes start k m now earlier grows is j most = elim (up_to_next j k most) [
+  | inl here ↦ let before = earlier j here in omega (arith, before, grows)
+  | inr next ↦ subst (λ (i : ℕ). (run bytes start i).machine.taken ≤ now.taken) (sym next) (subst (λ (x : MachineState). x.taken ≤ now.taken) is (omega arith))
+]
+
+pub stands_next : (bytes : List ℕ) (start : MachineState) (k : ℕ) (m now : MachineState) (end : TurnEnd) (feed feed' : Feed) (mid left : Option (List ℕ)) (trace : Option (List ℕ)) (out out' out'' : Option (List ℕ)) (held held' held'' : Option Held) → end ≡ Goes → StandsAt bytes start k m feed mid trace out out' held held' → m.taken ≤ now.taken → (feed'.held ≡ None → IsFalse feed'.ended → now.taken ≡ m.taken + 1) → Next bytes start k now end feed' left trace out out'' held held'' → StandsAt bytes start (k + 1) now feed' left trace out out'' held held''
+stands_next bytes start k m now end feed feed' mid left trace out out' out'' held held' held'' goes stands grows took next = record {
+  machine_is = next.machine_is;
+  goes = sym next.end_is ∙ goes;
+  made = next.made;
+  fed = next.fed;
+  written = next.written;
+  later = later_next bytes start k m now stands.later grows next.machine_is;
+  took = λ none goes_on j before.
+      let one = took none goes_on in
+      let most : j ≤ k = omega (arith, before) in
+      let earlier = stands.later j most in
+      omega (arith, one, earlier);
+}
 
 -- ---- fronts of the console
 
--- what was appended is a front of longer bytes
-front_of : (old now : Option (List ℕ)) (bytes whole : List ℕ) → Appends old now bytes → BeginsWith whole bytes → AppendsFront old now whole
-front_of old now bytes whole written (more, is) =
-    let front : take (length bytes) whole ≡ bytes = ap (take (length bytes)) is ∙ take_at bytes more (length bytes) refl in
-    (length bytes, subst (λ (xs : List ℕ). Appends old now xs) (sym front) written)
+pub front_standing : (bytes : List ℕ) (start : MachineState) (k n : ℕ) (m : MachineState) (feed : Feed) (left : Option (List ℕ)) (trace : Option (List ℕ)) (out out' : Option (List ℕ)) (held held' : Option Held) → k ≤ n → StandsAt bytes start k m feed left trace out out' held held' → AppendsFront out out' (run bytes start n).console
+front_standing bytes start k n m feed left trace out out' held held' within stands =
+    front_of out out' (run bytes start k).console (run bytes start n).console stands.written.console (console_grows bytes start k n within)
 
-pub front_from_run : (ran : Ran) (status : Status) (old now : Option (List ℕ)) → IsRun ran status old now → AppendsFront old now ran.console
-front_from_run ran status old now run = front_of old now ran.console ran.console run.written ([], sym (append-nil ran.console))
+pub front_cut : (bytes : List ℕ) (start : MachineState) (k n : ℕ) (m : MachineState) (feed : Feed) (left : Option (List ℕ)) (trace : Option (List ℕ)) (out out' out'' : Option (List ℕ)) (held held' : Option Held) → k + 1 ≤ n → StandsAt bytes start k m feed left trace out out' held held' → AppendsFront out' out'' (turn_on bytes m).console → AppendsFront out out'' (run bytes start n).console
+front_cut bytes start k n m feed left trace out out' out'' held held' within stands front =
+    let ran : Ran = run bytes start k in
+    let here : AppendsFront out' out'' (turn_on bytes ran.machine).console = subst (λ (x : MachineState). AppendsFront out' out'' (turn_on bytes x).console) stands.machine_is front in
+    let begins : BeginsWith (run bytes start n).console (ran.console ++ (turn_on bytes ran.machine).console) = subst (λ (r : Ran). BeginsWith (run bytes start n).console r.console) (run_more bytes start k stands.goes) (console_grows bytes start (k + 1) n within) in
+    then_front out out' out'' ran.console (turn_on bytes ran.machine).console (run bytes start n).console stands.written.console here begins
 
--- after k whole turns, and a front of the bytes of the next one
-pub front_when_cut : (start : CoreState) (k n : ℕ) (old new : CoreState) (out mid now : Option (List ℕ)) → k + 1 ≤ n → StandsAt start k old out mid → TurnIsCut old new mid now → AppendsFront out now (turns n (at_start start)).console
-front_when_cut start k n old new out mid now within stands cut =
-    let next = shown_next start k old new out mid cut.stop cut.sent stands cut.follows in
-    let before : List ℕ = (turns k (at_start start)).console in
-    let some_of : List ℕ = take cut.written.0 cut.sent in
-    let begun : BeginsWith (turns (k + 1) (at_start start)).console (before ++ some_of) =
-    (drop cut.written.0 cut.sent, next.console ∙ ap (λ (xs : List ℕ). before ++ xs) (sym (take-append-drop cut.written.0 cut.sent)) ∙ sym (append_assoc before some_of (drop cut.written.0 cut.sent))) in
-    front_of out now (before ++ some_of) (turns n (at_start start)).console (appends_both out mid now before some_of stands.written cut.written.1)
-    (begins_more _ _ _ begun (console_grows (k + 1) n (at_start start) within))
+pub front_next : (bytes : List ℕ) (start : MachineState) (k n : ℕ) (now : MachineState) (end : TurnEnd) (feed : Feed) (left : Option (List ℕ)) (trace : Option (List ℕ)) (out out'' : Option (List ℕ)) (held held'' : Option Held) → k + 1 ≤ n → Next bytes start k now end feed left trace out out'' held held'' → AppendsFront out out'' (run bytes start n).console
+front_next bytes start k n now end feed left trace out out'' held held'' within next =
+    front_of out out'' (run bytes start (k + 1)).console (run bytes start n).console next.written.console (console_grows bytes start (k + 1) n within)

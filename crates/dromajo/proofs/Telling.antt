@@ -16,6 +16,13 @@ stays_on (Some x) None c first second = absurd first
 stays_on (Some x) (Some y) None first second = absurd second
 stays_on (Some x) (Some y) (Some z) first second = second ∙ first
 
+-- what is related to content that stayed the same
+pub stays_then : {C : Type 0} (P : C → C → Type 0) (a b c : Option C) → StaysTold a b → Told b c P → Told a c P
+stays_then P None b c first second = tt
+stays_then P (Some x) None c first second = absurd first
+stays_then P (Some x) (Some y) None first second = second
+stays_then P (Some x) (Some y) (Some z) first second = subst (λ v. P v z) first second
+
 -- what is said of the content now holds of the content before
 pub told_before : {C : Type 0} (P : C → Type 0) (before now : Option C) → StaysTold before now → IfSome now P → IfSome before P
 told_before P None now stays holds = tt

@@ -1,13 +1,15 @@
 -- The number of each status, with which the program ends.
 use Rattle.std.specs.Prelude.{ℕ}
 use Rattle.dromajo.specs.declared.status.Status.{Status}
-use Rattle.dromajo.specs.declared.status.Status.TheVariants.{Done, Usage, BadElf, ReadFault, WriteFault, NoMemory, NotBuilt}
+use Rattle.dromajo.specs.declared.status.Status.TheVariants.{Done, Usage, BadConfig, BadElf, ReadFault, WriteFault, NoMemory, GuestEnded, BadHostWord}
 
 abbrev pub code_of : Status → ℕ
 code_of Done = 0
 code_of Usage = 2
+code_of (BadConfig fault) = 3
 code_of (BadElf fault) = 4
 code_of (ReadFault which) = 7
 code_of (WriteFault which) = 8
 code_of NoMemory = 9
-code_of (NotBuilt word pc) = 13
+code_of (GuestEnded code turn) = 10
+code_of (BadHostWord word turn) = 11

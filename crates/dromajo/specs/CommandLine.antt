@@ -6,10 +6,15 @@ use Rattle.std.specs.List.{list_all, list_any}
 use Rattle.std.specs.Str.{bytes_eq}
 use Rattle.std.specs.Str.Parse.{digits_value}
 
+-- where the machine and its program come from: a configuration or a flat image, by the file's name
+pub data Source : Type 0 where
+  FromConfig : List ℕ → Source
+  FromImage : List ℕ → Source
+
 -- a job: what the program is asked to do
 pub data Job : Type 0 where
-  -- run the flat image of this file name for so many turns
-  RunImage : List ℕ → ℕ → Job
+  -- run for so many turns, and write the trace to the file of this name, if one is given
+  Run : Source → ℕ → Option (List ℕ) → Job
 
 -- ---- values
 
@@ -52,21 +57,37 @@ pub record Command : Type 0 where
   pub names : List (List ℕ)
   pub job : (List ℕ → List (List ℕ)) → Option Job
 
--- `run` takes exactly one number of turns and exactly one image
-abbrev pub image_job : List ℕ → Option ℕ → Option Job
-image_job image None = None
-image_job image (Some turns) = if is_file_name image then Some (RunImage image turns) else None
+-- exactly one number of turns
+abbrev pub turns_of : List (List ℕ) → Option ℕ
+turns_of (turns ∷ []) = number_in most_turns turns
+turns_of turns = None
 
-abbrev pub run_job : List (List ℕ) → List (List ℕ) → Option Job
-run_job (turns ∷ []) (image ∷ []) = image_job image (number_in most_turns turns)
-run_job turns image = None
+-- exactly one of a configuration and a flat image
+abbrev pub source_of : List (List ℕ) → List (List ℕ) → Option Source
+source_of (config ∷ []) [] = if is_file_name config then Some (FromConfig config) else None
+source_of [] (image ∷ []) = if is_file_name image then Some (FromImage image) else None
+source_of configs images = None
+
+-- at most one trace file
+abbrev pub trace_of : List (List ℕ) → Option (Option (List ℕ))
+trace_of [] = Some None
+trace_of (trace ∷ []) = if is_file_name trace then Some (Some trace) else None
+trace_of traces = None
+
+abbrev pub run_with : Option ℕ → Option Source → Option (Option (List ℕ)) → Option Job
+run_with (Some turns) (Some source) (Some trace) = Some (Run source turns trace)
+run_with turns source trace = None
+
+-- `run` has all three
+abbrev pub run_job : List (List ℕ) → List (List ℕ) → List (List ℕ) → List (List ℕ) → Option Job
+run_job turns configs images traces = run_with (turns_of turns) (source_of configs images) (trace_of traces)
 
 unfoldable pub commands : List Command
 commands =
     record {
       word = codes "run";
-      names = codes "--turns" ∷ codes "--image" ∷ [];
-      job = λ values. run_job (values (codes "--turns")) (values (codes "--image"));
+      names = codes "--turns" ∷ codes "--config" ∷ codes "--image" ∷ codes "--trace" ∷ [];
+      job = λ values. run_job (values (codes "--turns")) (values (codes "--config")) (values (codes "--image")) (values (codes "--trace"));
     }
     ∷ []
 

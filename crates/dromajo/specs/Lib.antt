@@ -1,8 +1,12 @@
 pub mod CommandLine
 pub mod Walk
-pub mod Machine
 pub mod Report
 pub mod Codes
-pub mod Image
+pub mod Reading
+pub mod Program
 pub mod Run
+pub mod Feeding
+pub mod Causes
+pub mod Standing
+pub mod Cut
 pub mod TopCall

@@ -1,58 +1,63 @@
--- What the code of a run keeps, beside the machine of the definitions.
-use Rattle.std.specs.Prelude.{◌≡◌, ℕ, List, ◌++◌, take, Option, Some, None, ⊤}
-use Rattle.outside_io.specs.Causes.{Rose}
-use Rattle.std.specs.Io.KnownBytes.{Appends}
-use Rattle.hart_step.specs.Harts.{CoreState}
+-- A run of a machine: turn after turn, each offered the first byte of the input that was not taken yet.
+use Rattle.std.specs.Prelude.{ℕ, zero, suc, ◌+◌, ◌==◌, List, [], ◌∷◌, ◌++◌, slice_get, if◌then◌else◌}
+use Rattle.hart_step.specs.declared.event.Event.{Event}
+use Rattle.commit_log.specs.Spelling.{line}
+use Rattle.hart_turns.specs.declared.machine.TurnEnd.{TurnEnd}
+use Rattle.hart_turns.specs.declared.machine.TurnEnd.TheVariants.{Goes, Ended, BadHost}
+use Rattle.hart_turns.specs.Machine.{MachineState}
+use Rattle.hart_turns.specs.Turn.{Turned, turned}
 use Rattle.dromajo.specs.declared.status.Status.{Status}
-use Rattle.dromajo.specs.declared.status.Status.TheVariants.{Done, Usage, BadElf, ReadFault, WriteFault, NoMemory, NotBuilt}
-use Rattle.dromajo.specs.declared.status.Which.TheVariants.{Files, Out, Report}
-use Rattle.dromajo.specs.Machine.{Ran, flat_slice, steps}
+use Rattle.dromajo.specs.declared.status.Status.TheVariants.{Done, GuestEnded, BadHostWord}
 
--- the status of a run that stopped, or did not
-abbrev pub stop_status : Option (ℕ × ℕ) → Status
-stop_status None = Done
-stop_status (Some (word, pc)) = NotBuilt word pc
+-- a machine that has run: the console bytes that it has sent, its events, the turns made, how the last of them
+-- ended, and how many bytes of the input were read for them. That is one more than were taken when the last turn
+-- began; where the input has no more, all of it
+pub record Ran : Type 0 where
+  pub machine : MachineState
+  pub console : List ℕ
+  pub events : List Event
+  pub made : ℕ
+  pub read : ℕ
+  pub last : TurnEnd
 
--- the core and the bytes sent since are those of the machine, which had sent `before`
-pub record Follows (ran : Ran) (before : List ℕ) (core : CoreState) (sent : List ℕ) (stop : Option (ℕ × ℕ)) : Type 0 where
-  pub core_is : core ≡ ran.core
-  pub console : ran.console ≡ before ++ sent
-  pub stop_is : stop ≡ ran.stop
+abbrev pub at_start : MachineState → Ran
+at_start m = record { machine = m; console = []; events = []; made = 0; read = 0; last = Goes }
 
--- some front of the bytes was appended
-abbrev pub AppendsFront : Option (List ℕ) → Option (List ℕ) → List ℕ → Type 0
-AppendsFront old new bytes = (n : ℕ) × Appends old new (take n bytes)
+-- the turn of a machine on an input
+abbrev pub turn_on : List ℕ → MachineState → Turned
+turn_on input m = turned m (slice_get input m.taken)
 
--- a turn was taken, which sent these bytes
-abbrev pub TurnSent : CoreState → CoreState → Option (ℕ × ℕ) → List ℕ → Type 0
-TurnSent old new stop sent = (ran : Ran) → ran.core ≡ old → ran.stop ≡ None → Follows (steps flat_slice ran) ran.console new sent stop
+abbrev pub after_turn : Ran → Turned → Ran
+after_turn ran t = record {
+  machine = t.machine;
+  console = ran.console ++ t.console;
+  events = ran.events ++ t.events;
+  made = ran.made + 1;
+  read = ran.machine.taken + 1;
+  last = t.end;
+}
 
--- its bytes were written whole
-pub record TurnIsShown (old new : CoreState) (stop : Option (ℕ × ℕ)) (out_before out_now : Option (List ℕ)) : Type 0 where
-  pub sent : List ℕ
-  pub follows : TurnSent old new stop sent
-  pub written : Appends out_before out_now sent
+-- a machine whose last turn ended stays
+abbrev pub goes_on : List ℕ → Ran → TurnEnd → Ran
+goes_on input ran Goes = after_turn ran (turn_on input ran.machine)
+goes_on input ran (Ended code) = ran
+goes_on input ran (BadHost word) = ran
 
--- a front of its bytes was written
-pub record TurnIsCut (old new : CoreState) (out_before out_now : Option (List ℕ)) : Type 0 where
-  pub stop : Option (ℕ × ℕ)
-  pub sent : List ℕ
-  pub follows : TurnSent old new stop sent
-  pub written : AppendsFront out_before out_now sent
+-- the run of n turns, or to the first that ends
+unfoldable pub run : List ℕ → MachineState → ℕ → Ran
+run input m zero = at_start m
+run input m (suc n) = goes_on input (run input m n) (run input m n).last
 
--- a run that the outside did not cut short: its status, and its console bytes
-pub record IsRun (ran : Ran) (status : Status) (out_before out_now : Option (List ℕ)) : Type 0 where
-  pub status_is : status ≡ stop_status ran.stop
-  pub written : Appends out_before out_now ran.console
+-- the lines of events, each with its newline
+unfoldable pub trace_lines : List Event → List ℕ
+trace_lines [] = []
+trace_lines (e ∷ es) = line e ++ (10 ∷ trace_lines es)
 
--- why a run ends: only a write to the console can fail
-abbrev pub HasRunCause : Status → ℕ → ℕ → Type 0
-HasRunCause Done before now = now ≡ before
-HasRunCause (NotBuilt word pc) before now = now ≡ before
-HasRunCause (WriteFault Out) before now = Rose before now
-HasRunCause NoMemory before now = ⊤
-HasRunCause (WriteFault Files) before now = ⊥
-HasRunCause (WriteFault Report) before now = ⊥
-HasRunCause Usage before now = ⊥
-HasRunCause (BadElf fault) before now = ⊥
-HasRunCause (ReadFault which) before now = ⊥
+-- the status of a run, by how its last turn ended: a program that ends with code 0 is done
+abbrev pub end_status : TurnEnd → ℕ → Status
+end_status Goes made = Done
+end_status (Ended code) made = if code == 0 then Done else GuestEnded code made
+end_status (BadHost word) made = BadHostWord word made
+
+abbrev pub run_status : Ran → Status
+run_status ran = end_status ran.last ran.made

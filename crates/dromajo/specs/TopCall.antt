@@ -1,57 +1,63 @@
 -- What one call of the program leaves: the result of a job, the causes of its statuses, and its report.
-use Rattle.std.specs.Prelude.{◌≡◌, ◌≢◌, ℕ, List, [], length, take, drop, Option, Some, None, IfSome, nat_lt, ⊤, if◌then◌else◌}
+use Rattle.std.specs.Prelude.{◌≡◌, ◌≢◌, ◌⊎◌, ℕ, List, [], drop, take, Option, Some, None, IfSome, Result, Ok, Err, ⊤}
 use Rattle.std.specs.Io.KnownBytes.{Appends}
 use Rattle.outside_io.specs.Causes.{Rose}
-use Rattle.outside_io.specs.Content.{file_of}
-use Rattle.elf_load.specs.declared.fault.ElfFault.TheVariants.{OutsideRam}
+use Rattle.outside_io.specs.Content.{Held, Told}
+use Rattle.sim_config.specs.declared.fault.ConfigFault.TheVariants as config_fault
+use Rattle.hart_turns.specs.Machine.{MachineState, reset_machine}
+use Rattle.dromajo.specs.declared.program.Start.{Start}
 use Rattle.dromajo.specs.declared.status.Status.{Status}
-use Rattle.dromajo.specs.declared.status.Status.TheVariants.{Done, Usage, BadElf, ReadFault, WriteFault, NoMemory, NotBuilt}
-use Rattle.dromajo.specs.declared.status.Which.TheVariants.{Files, Out, Report}
-use Rattle.dromajo.specs.CommandLine.{Job, RunImage}
-use Rattle.dromajo.specs.Machine.{Ran, at_start, flat_ram, image_core, turns}
+use Rattle.dromajo.specs.declared.status.Status.TheVariants.{Done, Usage, BadConfig, BadElf, ReadFault, WriteFault, NoMemory, GuestEnded, BadHostWord}
+use Rattle.dromajo.specs.declared.status.Which.TheVariants.{Files, Input, Out, Report}
+use Rattle.dromajo.specs.CommandLine.{Job, Run, Source}
+use Rattle.dromajo.specs.Cut.{IsRunCut, IsUnbegun}
+use Rattle.dromajo.specs.Feeding.{HoldsTrace}
+use Rattle.dromajo.specs.Program.{start_of}
 use Rattle.dromajo.specs.Report.{report_line}
-use Rattle.dromajo.specs.Run.{stop_status}
-
--- what the files hold, by the bytes of their names
-abbrev pub Held : Type 0
-Held = List ℕ → Option (List ℕ)
+use Rattle.dromajo.specs.Run.{Ran, run, run_status, trace_lines}
 
 -- ---- the result of a job, over what the files hold and the input has left at the call
 
--- the status, the report line, the bytes appended to the console, what the files hold afterwards, and how
--- many bytes of the input were read
+-- the status, the report line, the bytes appended to the console, the file of the trace and its lines, and how many
+-- bytes of the input were read (where it has fewer, all)
 pub record JobResult : Type 0 where
   pub status : Status
   pub line : List ℕ
   pub console : List ℕ
-  pub files : Held
+  pub trace : Option (List ℕ)
+  pub lines : List ℕ
   pub read : ℕ
 
 -- a job that is refused before anything is done
-abbrev pub refused : Status → Held → JobResult
-refused status held = record { status = status; line = report_line status 0 0; console = []; files = held; read = 0 }
+abbrev pub refused : Status → JobResult
+refused status = record { status = status; line = report_line status 0 0; console = []; trace = None; lines = []; read = 0 }
 
--- a machine that has run for n turns, or to its first step that is not built
-abbrev pub ran_result : ℕ → Held → Ran → JobResult
-ran_result n held ran = record {
-  status = stop_status ran.stop;
-  line = report_line (stop_status ran.stop) n 0;
+-- a machine that has run
+abbrev pub ran_result : Option (List ℕ) → Ran → JobResult
+ran_result trace ran = record {
+  status = run_status ran;
+  line = report_line (run_status ran) ran.made ran.machine.taken;
   console = ran.console;
-  files = held;
-  read = 0;
+  trace = trace;
+  lines = trace_lines ran.events;
+  read = ran.read;
 }
 
--- `run --image`: an image that is too long is refused
-abbrev pub image_result : ℕ → Held → List ℕ → JobResult
-image_result n held image =
-    if nat_lt flat_ram (length image) then refused (BadElf (OutsideRam 0)) held else ran_result n held (turns n (at_start (image_core image)))
+-- the machine that a start stands for
+abbrev pub machine_of : Start → MachineState
+machine_of start = reset_machine start.shape start.ram start.entry
 
+abbrev pub started_result : ℕ → Option (List ℕ) → List ℕ → Result Start Status → JobResult
+started_result turns trace input (Err status) = refused status
+started_result turns trace input (Ok start) = ran_result trace (run input (machine_of start) turns)
+
+-- `run`: the machine of its source runs on the input
 abbrev pub job_result : Job → Held → List ℕ → JobResult
-job_result (RunImage image n) held input = image_result n held (file_of held image)
+job_result (Run source turns trace) held input = started_result turns trace input (start_of held source)
 
 -- the result of the job that the words name; where they name none, the call is refused
 abbrev pub result_of : Option Job → Held → List ℕ → JobResult
-result_of None held input = refused Usage held
+result_of None held input = refused Usage
 result_of (Some job) held input = job_result job held input
 
 -- ---- statuses
@@ -60,8 +66,10 @@ result_of (Some job) held input = job_result job held input
 abbrev pub IsSettled : Status → Type 0
 IsSettled Done = ⊤
 IsSettled Usage = ⊤
+IsSettled (BadConfig fault) = ⊤
 IsSettled (BadElf fault) = ⊤
-IsSettled (NotBuilt word pc) = ⊤
+IsSettled (GuestEnded code turn) = ⊤
+IsSettled (BadHostWord word turn) = ⊤
 IsSettled (ReadFault which) = ⊥
 IsSettled (WriteFault which) = ⊥
 IsSettled NoMemory = ⊥
@@ -70,11 +78,14 @@ IsSettled NoMemory = ⊥
 abbrev pub IsFinished : Status → Type 0
 IsFinished (WriteFault Report) = ⊤
 IsFinished (WriteFault Files) = ⊥
+IsFinished (WriteFault Input) = ⊥
 IsFinished (WriteFault Out) = ⊥
 IsFinished Done = ⊤
 IsFinished Usage = ⊤
+IsFinished (BadConfig fault) = ⊤
 IsFinished (BadElf fault) = ⊤
-IsFinished (NotBuilt word pc) = ⊤
+IsFinished (GuestEnded code turn) = ⊤
+IsFinished (BadHostWord word turn) = ⊤
 IsFinished (ReadFault which) = ⊥
 IsFinished NoMemory = ⊥
 
@@ -84,103 +95,149 @@ abbrev pub IsBefore : Status → Status → Type 0
 IsBefore before NoMemory = ⊤
 IsBefore before (WriteFault Report) = before ≡ Done
 IsBefore before (WriteFault Files) = before ≡ WriteFault Files
+IsBefore before (WriteFault Input) = before ≡ WriteFault Input
 IsBefore before (WriteFault Out) = before ≡ WriteFault Out
 IsBefore before Done = before ≡ Done
 IsBefore before Usage = before ≡ Usage
+IsBefore before (BadConfig fault) = before ≡ BadConfig fault
 IsBefore before (BadElf fault) = before ≡ BadElf fault
 IsBefore before (ReadFault which) = before ≡ ReadFault which
-IsBefore before (NotBuilt word pc) = before ≡ NotBuilt word pc
-
--- ---- what the call leaves
-
--- a finished call leaves the result of its job: the status, the console's bytes, the files, and the input
--- without the bytes read
-pub record Leaves (result : JobResult) (answered : Status) (out_before out_now : Option (List ℕ)) (files_now : Option Held) (input : List ℕ) (input_now : Option (List ℕ)) : Type 0 where
-  pub status : IsBefore result.status answered
-  pub console : Appends out_before out_now result.console
-  pub files : files_now ≡ Some result.files
-  pub read : input_now ≡ Some (drop result.read input)
-
--- the same of a run of an image, before its report
-pub record IsImageResult (result : JobResult) (status : Status) (turns : ℕ) (out_before out_now : Option (List ℕ)) : Type 0 where
-  pub status_is : status ≡ result.status
-  pub line : report_line status turns 0 ≡ result.line
-  pub console : Appends out_before out_now result.console
-
--- the causes of its statuses
-abbrev pub HasImageCause : Status → ℕ → ℕ → ℕ → ℕ → Type 0
-HasImageCause Done files files' out out' = (files' ≡ files) × (out' ≡ out)
-HasImageCause (NotBuilt word pc) files files' out out' = (files' ≡ files) × (out' ≡ out)
-HasImageCause (BadElf fault) files files' out out' = (files' ≡ files) × (out' ≡ out)
-HasImageCause (ReadFault Files) files files' out out' = Rose files files'
-HasImageCause (WriteFault Out) files files' out out' = Rose out out'
-HasImageCause NoMemory files files' out out' = ⊤
-HasImageCause (ReadFault Out) files files' out out' = ⊥
-HasImageCause (ReadFault Report) files files' out out' = ⊥
-HasImageCause (WriteFault Files) files files' out out' = ⊥
-HasImageCause (WriteFault Report) files files' out out' = ⊥
-HasImageCause Usage files files' out out' = ⊥
-
--- the causes of the status of a job, before its report
-abbrev pub HasJobCause : Status → Option Job → ℕ → ℕ → ℕ → ℕ → Type 0
-HasJobCause Usage job files files' out out' = job ≡ None
-HasJobCause Done job files files' out out' = HasImageCause Done files files' out out'
-HasJobCause (BadElf fault) job files files' out out' = HasImageCause (BadElf fault) files files' out out'
-HasJobCause (ReadFault which) job files files' out out' = HasImageCause (ReadFault which) files files' out out'
-HasJobCause (WriteFault which) job files files' out out' = HasImageCause (WriteFault which) files files' out out'
-HasJobCause NoMemory job files files' out out' = ⊤
-HasJobCause (NotBuilt word pc) job files files' out out' = HasImageCause (NotBuilt word pc) files files' out out'
+IsBefore before (GuestEnded code turn) = before ≡ GuestEnded code turn
+IsBefore before (BadHostWord word turn) = before ≡ BadHostWord word turn
 
 -- the status after a report that failed
 abbrev pub failed_report : Status → Status
 failed_report Done = WriteFault Report
 failed_report Usage = Usage
+failed_report (BadConfig fault) = BadConfig fault
 failed_report (BadElf fault) = BadElf fault
 failed_report (ReadFault which) = ReadFault which
 failed_report (WriteFault which) = WriteFault which
 failed_report NoMemory = NoMemory
-failed_report (NotBuilt word pc) = NotBuilt word pc
+failed_report (GuestEnded code turn) = GuestEnded code turn
+failed_report (BadHostWord word turn) = BadHostWord word turn
 
--- the counts of faults of the four objects
+-- ---- what the call leaves
+
+-- what a job has done by its end: the bytes of the console, the trace's file, and the input without the bytes read
+pub record HasDone (result : JobResult) (out_before out_now : Option (List ℕ)) (held : Held) (held_now : Option Held) (input : List ℕ) (input_now : Option (List ℕ)) : Type 0 where
+  pub console : Appends out_before out_now result.console
+  pub files : Told (Some held) held_now (HoldsTrace result.trace result.lines)
+  pub read : input_now ≡ Some (drop result.read input)
+
+-- a finished call leaves the result of its job
+pub record Leaves (result : JobResult) (answered : Status) (out_before out_now : Option (List ℕ)) (held : Held) (held_now : Option Held) (input : List ℕ) (input_now : Option (List ℕ)) : Type 0 where
+  pub status : IsBefore result.status answered
+  pub done : HasDone result out_before out_now held held_now input input_now
+
+-- the same of a job, before its report
+pub record IsJobResult (result : JobResult) (status : Status) (turns taken : ℕ) (out_before out_now : Option (List ℕ)) (held : Held) (held_now : Option Held) (input : List ℕ) (input_now : Option (List ℕ)) : Type 0 where
+  pub status_is : status ≡ result.status
+  pub line : report_line status turns taken ≡ result.line
+  pub done : HasDone result out_before out_now held held_now input input_now
+
+-- ---- what a fault leaves
+
+-- the machine of a source was cut in its run
+pub record IsJobCut (source : Source) (turns : ℕ) (trace : Option (List ℕ)) (k : ℕ) (status : Status) (out_before out_now : Option (List ℕ)) (held : Held) (held_now : Option Held) (bytes : List ℕ) (left_now : Option (List ℕ)) : Type 0 where
+  pub start : Start
+  pub starts : start_of held source ≡ Ok start
+  pub cut : IsRunCut bytes (machine_of start) turns k status left_now (HoldsTrace trace) out_before out_now (Some held) held_now
+
+-- what a run leaves that ended with this status after k whole turns. The files of the job are read, then its trace
+-- is started, and then the turns begin
+abbrev pub RunLeaves : Source → ℕ → Option (List ℕ) → ℕ → Status → Option (List ℕ) → Option (List ℕ) → Held → Option Held → List ℕ → Option (List ℕ) → Type 0
+RunLeaves source turns trace k (ReadFault Files) out out' held held' bytes left = IsUnbegun None k out out' held held' bytes left
+RunLeaves source turns trace k (ReadFault Input) out out' held held' bytes left = IsJobCut source turns trace k (ReadFault Input) out out' held held' bytes left
+RunLeaves source turns trace k (ReadFault Out) out out' held held' bytes left = ⊥
+RunLeaves source turns trace k (ReadFault Report) out out' held held' bytes left = ⊥
+RunLeaves source turns trace k (WriteFault Files) out out' held held' bytes left = IsUnbegun trace k out out' held held' bytes left ⊎ IsJobCut source turns trace k (WriteFault Files) out out' held held' bytes left
+RunLeaves source turns trace k (WriteFault Input) out out' held held' bytes left = ⊥
+RunLeaves source turns trace k (WriteFault Out) out out' held held' bytes left = IsJobCut source turns trace k (WriteFault Out) out out' held held' bytes left
+RunLeaves source turns trace k (WriteFault Report) out out' held held' bytes left = ⊥
+RunLeaves source turns trace k NoMemory out out' held held' bytes left = IsUnbegun trace k out out' held held' bytes left ⊎ IsJobCut source turns trace k NoMemory out out' held held' bytes left
+RunLeaves source turns trace k Done out out' held held' bytes left = HasDone (job_result (Run source turns trace) held bytes) out out' held held' bytes left
+RunLeaves source turns trace k Usage out out' held held' bytes left = HasDone (job_result (Run source turns trace) held bytes) out out' held held' bytes left
+RunLeaves source turns trace k (BadConfig fault) out out' held held' bytes left = HasDone (job_result (Run source turns trace) held bytes) out out' held held' bytes left
+RunLeaves source turns trace k (BadElf fault) out out' held held' bytes left = HasDone (job_result (Run source turns trace) held bytes) out out' held held' bytes left
+RunLeaves source turns trace k (GuestEnded code n) out out' held held' bytes left = HasDone (job_result (Run source turns trace) held bytes) out out' held held' bytes left
+RunLeaves source turns trace k (BadHostWord word n) out out' held held' bytes left = HasDone (job_result (Run source turns trace) held bytes) out out' held held' bytes left
+
+-- what a job leaves that ended with this status; where the words name none, nothing is done
+abbrev pub JobLeaves : Option Job → ℕ → Status → Option (List ℕ) → Option (List ℕ) → Held → Option Held → List ℕ → Option (List ℕ) → Type 0
+JobLeaves None k status out out' held held' bytes left = HasDone (refused Usage) out out' held held' bytes left
+JobLeaves (Some (Run source turns trace)) k status out out' held held' bytes left = RunLeaves source turns trace k status out out' held held' bytes left
+
+-- ---- causes
+
+-- the counts of faults of the four objects; files have one for reading and one for writing
 pub record Counts : Type 0 where
   pub files : ℕ
+  pub writes : ℕ
   pub input : ℕ
   pub out : ℕ
   pub report : ℕ
 
-abbrev pub counts : ℕ → ℕ → ℕ → ℕ → Counts
-counts files input out report = record { files = files; input = input; out = out; report = report }
+abbrev pub counts : ℕ → ℕ → ℕ → ℕ → ℕ → Counts
+counts files writes input out report = record { files = files; writes = writes; input = input; out = out; report = report }
 
 -- no fault of the files, the input or the console was passed over
 pub record NonePassedOver (before now : Counts) : Type 0 where
   pub files : now.files ≡ before.files
+  pub writes : now.writes ≡ before.writes
   pub input : now.input ≡ before.input
   pub out : now.out ≡ before.out
 
--- why a status is answered, where what the outside holds does not say it: a fault comes only where the count
--- of the object that it names rose, and Usage only where the words name no job
+-- the causes of the status of a job, before its report: where the outside did not fail, no count rose
+abbrev pub HasJobCause : Status → Option Job → Counts → Counts → Type 0
+HasJobCause Usage job before now = (job ≡ None) × NonePassedOver before now
+HasJobCause Done job before now = NonePassedOver before now
+HasJobCause (BadConfig fault) job before now = (fault ≢ config_fault.NoMemory) × NonePassedOver before now
+HasJobCause (BadElf fault) job before now = NonePassedOver before now
+HasJobCause (GuestEnded code turn) job before now = NonePassedOver before now
+HasJobCause (BadHostWord word turn) job before now = NonePassedOver before now
+HasJobCause (ReadFault Files) job before now = Rose before.files now.files
+HasJobCause (ReadFault Input) job before now = Rose before.input now.input
+HasJobCause (ReadFault Out) job before now = ⊥
+HasJobCause (ReadFault Report) job before now = ⊥
+HasJobCause (WriteFault Files) job before now = Rose before.writes now.writes
+HasJobCause (WriteFault Input) job before now = ⊥
+HasJobCause (WriteFault Out) job before now = Rose before.out now.out
+HasJobCause (WriteFault Report) job before now = ⊥
+HasJobCause NoMemory job before now = ⊤
+
+-- why a status is answered, where what the outside holds does not say it: a fault comes only where the count of the
+-- object that it names rose, Usage only where the words name no job, and BadConfig never carries want of memory
 abbrev pub HasCause : Status → Option Job → Counts → Counts → Type 0
 HasCause (ReadFault Files) job before now = Rose before.files now.files
+HasCause (ReadFault Input) job before now = Rose before.input now.input
 HasCause (ReadFault Out) job before now = ⊥
 HasCause (ReadFault Report) job before now = ⊥
+HasCause (WriteFault Files) job before now = Rose before.writes now.writes
+HasCause (WriteFault Input) job before now = ⊥
 HasCause (WriteFault Out) job before now = Rose before.out now.out
 HasCause (WriteFault Report) job before now = Rose before.report now.report
-HasCause (WriteFault Files) job before now = ⊥
 HasCause Usage job before now = job ≡ None
 HasCause Done job before now = ⊤
+HasCause (BadConfig fault) job before now = fault ≢ config_fault.NoMemory
 HasCause (BadElf fault) job before now = ⊤
 HasCause NoMemory job before now = ⊤
-HasCause (NotBuilt word pc) job before now = ⊤
+HasCause (GuestEnded code turn) job before now = ⊤
+HasCause (BadHostWord word turn) job before now = ⊤
 
 -- where the words name no job, that is said, unless memory lacks
 abbrev pub IsUsage : Status → Type 0
 IsUsage Usage = ⊤
 IsUsage NoMemory = ⊤
 IsUsage Done = ⊥
+IsUsage (BadConfig fault) = ⊥
 IsUsage (BadElf fault) = ⊥
 IsUsage (ReadFault which) = ⊥
 IsUsage (WriteFault which) = ⊥
-IsUsage (NotBuilt word pc) = ⊥
+IsUsage (GuestEnded code turn) = ⊥
+IsUsage (BadHostWord word turn) = ⊥
+
+-- ---- the report
 
 -- the line of the status before the report was written: whole, where the report did not fail and memory was
 -- found, else a prefix of it
@@ -189,11 +246,21 @@ pub record Reports (answered : Status) (turns taken : ℕ) (before : Status) (ol
   pub whole : (Rose count_before count_now → ⊥) → answered ≢ NoMemory → Appends old new (report_line before turns taken)
   pub prefix : (n : ℕ) × Appends old new (take n (report_line before turns taken))
 
--- there is a status before the report, whose line was written; where what the outside holds is told, and that
--- status is settled, the line is that of the job's result
-pub record Reported (answered : Status) (job : Option Job) (held : Option Held) (input : Option (List ℕ)) (old new : Option (List ℕ)) (count_before count_now : ℕ) : Type 0 where
+-- what the outside has told: the console's bytes, the files and the input, before and now
+pub record Sides : Type 0 where
+  pub out : Option (List ℕ)
+  pub out_now : Option (List ℕ)
+  pub held : Option Held
+  pub held_now : Option Held
+  pub input : Option (List ℕ)
+  pub input_now : Option (List ℕ)
+
+-- there is a status before the report, whose line was written, and the call leaves what the job leaves that ended
+-- with it; where what the outside holds is told, and that status is settled, the line is that of the job's result
+pub record Reported (answered : Status) (job : Option Job) (sides : Sides) (old new : Option (List ℕ)) (count_before count_now : ℕ) : Type 0 where
   pub before : Status
   pub turns : ℕ
   pub taken : ℕ
   pub reports : Reports answered turns taken before old new count_before count_now
-  pub line : IsSettled before → IfSome held (λ files. IfSome input (λ bytes. report_line before turns taken ≡ (result_of job files bytes).line))
+  pub leaves : IfSome sides.held (λ files. IfSome sides.input (λ bytes. JobLeaves job turns before sides.out sides.out_now files sides.held_now bytes sides.input_now))
+  pub line : IsSettled before → IfSome sides.held (λ files. IfSome sides.input (λ bytes. report_line before turns taken ≡ (result_of job files bytes).line))

@@ -3,15 +3,29 @@
 #![tactic(auto)]
 
 #[cfg(test)]
-mod hello;
-mod image;
+mod example_images;
+#[cfg(test)]
+mod example_tests;
+#[cfg(test)]
+mod fault_tests;
+mod feed;
+mod program;
+#[cfg(test)]
+mod program_tests;
+mod reading;
 mod report;
 mod run;
+#[cfg(test)]
+mod run_tests;
 mod status;
 #[cfg(test)]
-mod tests;
+mod test_support;
 mod top;
-mod turn;
+#[cfg(test)]
+mod trace_tests;
+mod turns;
+#[cfg(test)]
+mod word_tests;
 mod words;
 
 use outside_io::{DirFiles, StdSink, StdSource};

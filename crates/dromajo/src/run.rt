@@ -1,66 +1,110 @@
-// Running the board of a flat image.
+// Running a machine.
 
-ghost use Rattle.std.specs.Prelude.{◌≡◌, ◌<◌, IfOk, OnErr, length};
-ghost use Rattle.outside_io.specs.Causes.{HasCause};
-ghost use Rattle.dromajo.specs.Machine.{at_start};
-ghost use Rattle.dromajo.specs.Machine.{turns as turns_of};
-ghost use Rattle.dromajo.specs.Run.{AppendsFront, HasRunCause, IsRun, TurnIsCut, TurnIsShown};
+ghost use Rattle.std.specs.Prelude.{◌≡◌, ◌≢◌, ◌≤◌, ◌<◌, ℕ, List, IsTrue, IsFalse, Some, option_map};
+ghost use Rattle.hart_turns.specs.declared.machine.TurnEnd.TheVariants.{Goes};
+ghost use Rattle.dromajo.specs.Causes.{HasRunCause};
+ghost use Rattle.dromajo.specs.Cut.{IsRunCut};
+ghost use Rattle.dromajo.specs.Feeding.{AddsLines, AppendsFront};
+ghost use Rattle.dromajo.specs.Run.{end_status};
+ghost use Rattle.dromajo.specs.Run.{run as run_of};
+ghost use Rattle.dromajo.specs.Standing.{IsRun};
 ghost use Rattle.dromajo.specs.TopCall.{IsSettled};
+ghost use Rattle.dromajo.specs.Walk.{text_seen};
 
-use crate::status::{Status, Which};
-use crate::turn::{TurnOutput, turn};
-use hart_step::Core;
-use outside_io::{OutFault, Sink};
+use crate::feed::Feed;
+use crate::status::Status;
+use crate::turns::run_turn;
+use hart_turns::{Machine, TurnEnd};
+use outside_io::{Files, Sink, Source};
+use std::alloc::Global;
 
 /// How a job ended, before its report: the turns that it made, and the input bytes that were taken.
-#[derive(Clone, Copy)]
+#[derive(Drop)]
 pub(crate) struct Ended {
     pub(crate) status: Status,
     pub(crate) turns: u64,
     pub(crate) taken: u64,
 }
 
-/// Takes one turn and writes the console bytes that it sent. Answers the word and the pc of the step
-/// at which it stopped.
-fn shown_turn<O: Sink>(core: &mut Core, out: &mut O) -> Result<Option<(u32, u64)>, OutFault>
-    requires { 0 < length core.old.harts }
-    ensures shown { IfOk result (λ stop.
-        TurnIsShown core.old core.new stop (O.written out.old) (O.written out.new)) }
-    ensures cut { OnErr result
-        (TurnIsCut core.old core.new (O.written out.old) (O.written out.new)) }
-    ensures cause { HasCause (O.faults out.old) (O.faults out.new) result }
-    ensures harts { length core.new.harts ≡ length core.old.harts }
+/// The status of a run whose last turn, of this number, ended so.
+fn status_at(end: TurnEnd, turn: u64) -> Status
+    ensures { result ≡ end_status end turn }
 {
-    let mut output = TurnOutput::new();
-    let stop = turn(core, &mut output);
-    if output.bytes().is_empty() {
-        return Ok(stop);
-    }
-    match out.write(output.bytes()) {
-        Ok(()) => Ok(stop),
-        Err(fault) => Err(fault),
+    match end {
+        TurnEnd::Goes => Status::Done,
+        TurnEnd::Ended(0) => Status::Done,
+        TurnEnd::Ended(code) => Status::GuestEnded { code, turn },
+        TurnEnd::BadHost(word) => Status::BadHostWord { word, turn },
     }
 }
 
-/// Takes so many turns, or as many as there are to the first step that is not built, and writes the
-/// console bytes of each.
-pub(crate) fn run<O: Sink>(core: &mut Core, turns: u64, out: &mut O) -> Status
-    requires { 0 < length core.old.harts }
-    ensures ran { IsSettled result → IsRun (turns_of turns (at_start core.old)) result
-        (O.written out.old) (O.written out.new) }
-    ensures front { AppendsFront (O.written out.old) (O.written out.new)
-        (turns_of turns (at_start core.old)).console }
-    ensures cause { HasRunCause result (O.faults out.old) (O.faults out.new) }
+/// Whether a turn ended the run.
+fn has_ended(end: TurnEnd) -> bool
+    ensures ended { IsTrue result → end ≢ Goes }
+    ensures goes { IsFalse result → end ≡ Goes }
 {
-    for _ in 0..turns {
-        let stop = match shown_turn(core, out) {
-            Ok(stop) => stop,
-            Err(OutFault::Failed) => return Status::WriteFault(Which::Out),
-            Err(OutFault::NoMemory) => return Status::NoMemory,
+    match end {
+        TurnEnd::Goes => false,
+        TurnEnd::Ended(_) => true,
+        TurnEnd::BadHost(_) => true,
+    }
+}
+
+/// Makes so many turns, or as many as there are to the first that ends, and writes the console bytes
+/// and the lines of each.
+pub(crate) fn run<F: Files, I: Source, O: Sink>(
+    alloc: Global,
+    machine: &mut Machine,
+    turns: u64,
+    trace: Option<&str>,
+    files: &mut F,
+    input: &mut I,
+    out: &mut O,
+) -> Ended
+    requires fresh { machine.old.machine.taken ≡ 0 }
+    requires most { turns ≤ 1_000_000_000 }
+    ensures ran { IsSettled result.status → (bytes : List ℕ) → I.left input.old ≡ Some bytes →
+        IsRun bytes (run_of bytes machine.old.machine turns) result (I.left input.new)
+        (option_map text_seen trace.entry) (O.written out.old) (O.written out.new)
+        (F.held files.old) (F.held files.new) }
+    ensures front { (bytes : List ℕ) → I.left input.old ≡ Some bytes →
+        AppendsFront (O.written out.old) (O.written out.new) (run_of bytes machine.old.machine turns).console }
+    ensures cut { (IsSettled result.status → ⊥) → (bytes : List ℕ) → I.left input.old ≡ Some bytes →
+        IsRunCut bytes machine.old.machine turns result.turns result.status (I.left input.new)
+        (AddsLines (option_map text_seen trace.entry)) (O.written out.old) (O.written out.new)
+        (F.held files.old) (F.held files.new) }
+    ensures cause { HasRunCause result.status
+        (F.write_faults files.old) (F.write_faults files.new)
+        (I.faults input.old) (I.faults input.new) (O.faults out.old) (O.faults out.new) }
+    ensures other_count { F.read_faults files.new ≡ F.read_faults files.old }
+{
+    let mut feed = Feed::new();
+    let mut text = Vec::new(alloc);
+    for made in 0..turns {
+        let end = match run_turn(machine, &mut feed, trace, &mut text, files, input, out) {
+            Ok(end) => end,
+            Err(status) => {
+                let taken = machine.taken();
+                return Ended {
+                    status,
+                    turns: made,
+                    taken,
+                };
+            }
         };
-        if let Some((word, pc)) = stop {
-            return Status::NotBuilt { word, pc };
+        if has_ended(end) {
+            let taken = machine.taken();
+            return Ended {
+                status: status_at(end, made + 1),
+                turns: made + 1,
+                taken,
+            };
         }
     }
-    Status::Done
+    let taken = machine.taken();
+    Ended {
+        status: Status::Done,
+        turns,
+        taken,
+    }
 }

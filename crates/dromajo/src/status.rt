@@ -4,12 +4,15 @@ ghost use Rattle.std.specs.Prelude.{◌≡◌};
 ghost use Rattle.dromajo.specs.Codes.{code_of};
 
 use elf_load::ElfFault;
+use sim_config::ConfigFault;
 
 /// The object that failed.
 #[derive(Clone, Copy, PartialEq, Eq, Debug)]
 pub enum Which {
-    /// The files that the words name.
+    /// The files that the words and the configuration name.
     Files,
+    /// The console's input.
+    Input,
     /// The console's output.
     Out,
     /// The report.
@@ -17,12 +20,14 @@ pub enum Which {
 }
 
 /// How a call ended. Each status has a number, with which the program ends.
-#[derive(Clone, Copy, PartialEq, Eq, Debug)]
+#[derive(PartialEq, Eq, Debug, Drop)]
 pub enum Status {
-    /// 0: the job was done.
+    /// 0: the job was done; a guest that ended with code 0 is done too.
     Done,
     /// 2: the words name no job.
     Usage,
+    /// 3: the configuration is refused. It never carries `ConfigFault::NoMemory`.
+    BadConfig(ConfigFault),
     /// 4: the program is refused; a flat image that is too long is `OutsideRam(0)`.
     BadElf(ElfFault),
     /// 7: a read failed.
@@ -31,9 +36,11 @@ pub enum Status {
     WriteFault(Which),
     /// 9: there was no memory.
     NoMemory,
-    /// 13: the next step is not built yet. `word` is the fetched word, a 16-bit one with zeros above,
-    /// or 0 where none can be fetched.
-    NotBuilt { word: u32, pc: u64 },
+    /// 10: the guest ended the run with this code, which is not 0, in this turn of the call, counted
+    /// from 1.
+    GuestEnded { code: u64, turn: u64 },
+    /// 11: the guest sent the host a word that no host serves, in this turn of the call, counted from 1.
+    BadHostWord { word: u64, turn: u64 },
 }
 
 impl Status {
@@ -44,11 +51,13 @@ impl Status {
         match self {
             Status::Done => 0,
             Status::Usage => 2,
+            Status::BadConfig(_) => 3,
             Status::BadElf(_) => 4,
             Status::ReadFault(_) => 7,
             Status::WriteFault(_) => 8,
             Status::NoMemory => 9,
-            Status::NotBuilt { .. } => 13,
+            Status::GuestEnded { .. } => 10,
+            Status::BadHostWord { .. } => 11,
         }
     }
 }

@@ -1,81 +1,135 @@
 // The top call: the words, the job, the report.
 
-ghost use Rattle.std.specs.Prelude.{◌≡◌, IfSome, List, None, ℕ};
-ghost use Rattle.outside_io.specs.Content.{Told, file_of};
+ghost use Rattle.std.specs.Prelude.{◌≡◌, ◌≤◌, IfSome, List, None, OnErr, OnOk, ℕ, Some, option_map, []};
 ghost use Rattle.outside_io.specs.Causes.{Rose};
+ghost use Rattle.outside_io.specs.Causes.{HasCause as HasCallCause};
+ghost use Rattle.outside_io.specs.Content.{Told};
 ghost use Rattle.dromajo.specs.CommandLine.{job_of, texts};
-ghost use Rattle.dromajo.specs.Run.{AppendsFront};
-ghost use Rattle.dromajo.specs.TopCall.{HasCause, HasImageCause, HasJobCause, failed_report, IsImageResult, image_result, IsBefore, IsFinished, IsSettled, IsUsage, Leaves, NonePassedOver, Reported, Reports, counts, result_of};
+ghost use Rattle.dromajo.specs.CommandLine.{Run as RunJob};
+ghost use Rattle.dromajo.specs.Cut.{MayBeStarted};
+ghost use Rattle.dromajo.specs.Feeding.{AppendsFront, HoldsTrace};
+ghost use Rattle.dromajo.specs.TopCall.{HasCause, HasJobCause, IsBefore, IsFinished, IsJobResult, IsSettled, IsUsage, JobLeaves, Leaves, NonePassedOver, Reported, Reports, counts, failed_report, job_result, result_of};
+ghost use Rattle.dromajo.specs.Walk.{source_seen, text_seen};
 
-use crate::image::load_image;
+use crate::program::load_start;
 use crate::report::report_line;
 use crate::run::{Ended, run};
 use crate::status::{Status, Which};
-use crate::words::{Job, named_job};
-use guest_ram::BASE;
-use hart_step::Core;
+use crate::words::{Job, Source as Origin, named_job};
+use hart_turns::Machine;
 use outside_io::{Files, OutFault, Sink, Source};
 use std::alloc::Global;
 
-/// Runs a flat image for so many turns.
-fn run_image<F: Files, O: Sink>(
-    alloc: Global,
-    files: &mut F,
-    out: &mut O,
-    image: &str,
-    turns: u64,
-) -> Status
-    ensures settled { IsSettled result → IfSome (F.held files.old) (λ held.
-        IsImageResult (image_result turns held (file_of held image.now)) result turns
-        (O.written out.old) (O.written out.new)) }
-    ensures front { IfSome (F.held files.old) (λ held.
-        AppendsFront (O.written out.old) (O.written out.new)
-        (image_result turns held (file_of held image.now)).console) }
-    ensures content { Told (F.held files.old) (F.held files.new) (λ old new. new ≡ old) }
-    ensures cause { HasImageCause result (F.read_faults files.old) (F.read_faults files.new)
-        (O.faults out.old) (O.faults out.new) }
+/// A job that ended before its first turn.
+fn ended_early(status: Status) -> Ended
+    ensures status { result.status ≡ status }
+    ensures turns { result.turns ≡ 0 }
+    ensures taken { result.taken ≡ 0 }
 {
-    let ram = match load_image(alloc, files, image) {
-        Ok(ram) => ram,
-        Err(status) => return status,
+    Ended {
+        status,
+        turns: 0,
+        taken: 0,
+    }
+}
+
+/// Starts the file of a trace, where there is one.
+fn start_trace<F: Files>(files: &mut F, trace: Option<&str>) -> Result<(), OutFault>
+    ensures started { OnOk result (Told (F.held files.old) (F.held files.new)
+        (λ before now. HoldsTrace (option_map text_seen trace.entry) [] before now)) }
+    ensures cut { OnErr result (Told (F.held files.old) (F.held files.new) (MayBeStarted (option_map text_seen trace.entry))) }
+    ensures cause { HasCallCause (F.write_faults files.old) (F.write_faults files.new) result }
+    ensures other_count { F.read_faults files.new ≡ F.read_faults files.old }
+{
+    match trace {
+        Some(name) => files.start(name),
+        None => Ok(()),
+    }
+}
+
+/// Runs the machine of a source for so many turns.
+fn run_source<F: Files, I: Source, O: Sink>(
+    alloc: Global,
+    source: Origin<'_>,
+    turns: u64,
+    trace: Option<&str>,
+    files: &mut F,
+    input: &mut I,
+    out: &mut O,
+) -> Ended
+    requires most { turns ≤ 1_000_000_000 }
+    ensures settled { IsSettled result.status → IfSome (F.held files.old) (λ held.
+        (bytes : List ℕ) → I.left input.old ≡ Some bytes →
+        IsJobResult (job_result (RunJob (source_seen source.entry) turns (option_map text_seen trace.entry)) held bytes)
+        result.status result.turns result.taken (O.written out.old) (O.written out.new)
+        held (F.held files.new) bytes (I.left input.new)) }
+    ensures front { IfSome (F.held files.old) (λ held.
+        (bytes : List ℕ) → I.left input.old ≡ Some bytes →
+        AppendsFront (O.written out.old) (O.written out.new)
+        (job_result (RunJob (source_seen source.entry) turns (option_map text_seen trace.entry)) held bytes).console) }
+    ensures cut { (IsSettled result.status → ⊥) → IfSome (F.held files.old) (λ held.
+        (bytes : List ℕ) → I.left input.old ≡ Some bytes →
+        JobLeaves (Some (RunJob (source_seen source.entry) turns (option_map text_seen trace.entry)))
+        result.turns result.status (O.written out.old) (O.written out.new)
+        held (F.held files.new) bytes (I.left input.new)) }
+    ensures cause { HasJobCause result.status (Some (RunJob (source_seen source.entry) turns (option_map text_seen trace.entry)))
+        (counts (F.read_faults files.old) (F.write_faults files.old) (I.faults input.old) (O.faults out.old) 0)
+        (counts (F.read_faults files.new) (F.write_faults files.new) (I.faults input.new) (O.faults out.new) 0) }
+{
+    let start = match load_start(alloc, files, source) {
+        Ok(start) => start,
+        Err(status) => return ended_early(status),
     };
-    let mut core = match Core::new(alloc, 1, ram, BASE) {
-        Ok(core) => core,
-        Err(_) => return Status::NoMemory,
+    let mut machine = match Machine::reset(alloc, start.shape, start.ram, start.entry) {
+        Ok(machine) => machine,
+        Err(_) => return ended_early(Status::NoMemory),
     };
-    run(&mut core, turns, out)
+    match start_trace(files, trace) {
+        Ok(()) => run(alloc, &mut machine, turns, trace, files, input, out),
+        Err(OutFault::Failed) => ended_early(Status::WriteFault(Which::Files)),
+        Err(OutFault::NoMemory) => ended_early(Status::NoMemory),
+    }
 }
 
 /// Does the job that the words name.
-fn perform<F: Files, O: Sink>(alloc: Global, words: &[String], files: &mut F, out: &mut O) -> Ended
+fn perform<F: Files, I: Source, O: Sink>(
+    alloc: Global,
+    words: &[String],
+    files: &mut F,
+    input: &mut I,
+    out: &mut O,
+) -> Ended
     ensures settled { IsSettled result.status → IfSome (F.held files.old) (λ held.
-        (input : List ℕ) → IsImageResult (result_of (job_of (texts words.now)) held input)
-        result.status result.turns (O.written out.old) (O.written out.new)) }
+        (bytes : List ℕ) → I.left input.old ≡ Some bytes →
+        IsJobResult (result_of (job_of (texts words.now)) held bytes)
+        result.status result.turns result.taken (O.written out.old) (O.written out.new)
+        held (F.held files.new) bytes (I.left input.new)) }
     ensures front { IfSome (F.held files.old) (λ held.
-        (input : List ℕ) → AppendsFront (O.written out.old) (O.written out.new)
-        (result_of (job_of (texts words.now)) held input).console) }
-    ensures content { Told (F.held files.old) (F.held files.new) (λ old new. new ≡ old) }
-    ensures taken { result.taken ≡ 0 }
+        (bytes : List ℕ) → I.left input.old ≡ Some bytes →
+        AppendsFront (O.written out.old) (O.written out.new)
+        (result_of (job_of (texts words.now)) held bytes).console) }
+    ensures cut { (IsSettled result.status → ⊥) → IfSome (F.held files.old) (λ held.
+        (bytes : List ℕ) → I.left input.old ≡ Some bytes →
+        JobLeaves (job_of (texts words.now)) result.turns result.status (O.written out.old) (O.written out.new)
+        held (F.held files.new) bytes (I.left input.new)) }
     ensures cause { HasJobCause result.status (job_of (texts words.now))
-        (F.read_faults files.old) (F.read_faults files.new)
-        (O.faults out.old) (O.faults out.new) }
+        (counts (F.read_faults files.old) (F.write_faults files.old) (I.faults input.old) (O.faults out.old) 0)
+        (counts (F.read_faults files.new) (F.write_faults files.new) (I.faults input.new) (O.faults out.new) 0) }
     ensures before { IsBefore result.status result.status }
     ensures nothing { job_of (texts words.now) ≡ None →
-        (result.status ≡ Status.Usage) × (files.new ≡ files.old) × (out.new ≡ out.old) }
+        (result.status ≡ Status.Usage) × (files.new ≡ files.old) × (input.new ≡ input.old) × (out.new ≡ out.old) }
 {
-    let Some(Job::RunImage { image, turns }) = named_job(words) else {
-        return Ended {
-            status: Status::Usage,
-            turns: 0,
-            taken: 0,
-        };
+    let Some(
+        Job::Run {
+            source,
+            turns,
+            trace,
+        },
+    ) = named_job(words)
+    else {
+        return ended_early(Status::Usage);
     };
-    let status = run_image(alloc, files, out, image, turns);
-    Ended {
-        status,
-        turns,
-        taken: 0,
-    }
+    run_source(alloc, source, turns, trace, files, input, out)
 }
 
 /// Writes the report line, and answers the status after it.
@@ -88,7 +142,7 @@ fn finish<E: Sink>(alloc: Global, ended: Ended, report: &mut E) -> Status
         Rose (E.faults report.old) (E.faults report.new) }
     ensures done { result ≡ Status.Done → E.faults report.new ≡ E.faults report.old }
 {
-    let line = match report_line(alloc, ended.status, ended.turns, ended.taken) {
+    let line = match report_line(alloc, &ended.status, ended.turns, ended.taken) {
         Ok(line) => line,
         Err(_) => return Status::NoMemory,
     };
@@ -105,12 +159,7 @@ fn after_failed_report(status: Status) -> Status
 {
     match status {
         Status::Done => Status::WriteFault(Which::Report),
-        Status::Usage => Status::Usage,
-        Status::BadElf(fault) => Status::BadElf(fault),
-        Status::ReadFault(which) => Status::ReadFault(which),
-        Status::WriteFault(which) => Status::WriteFault(which),
-        Status::NoMemory => Status::NoMemory,
-        Status::NotBuilt { word, pc } => Status::NotBuilt { word, pc },
+        status => status,
     }
 }
 
@@ -132,8 +181,7 @@ pub fn dromajo<F: Files, I: Source, O: Sink, E: Sink>(
     ensures result { IsFinished result → IfSome (F.held files.old) (λ held.
         IfSome (I.left input.old) (λ bytes.
         Leaves (result_of (job_of (texts words.now.items)) held bytes) result
-        (O.written out.old) (O.written out.new)
-        (F.held files.new) bytes (I.left input.new))) }
+        (O.written out.old) (O.written out.new) held (F.held files.new) bytes (I.left input.new))) }
 
     // Whatever the status, the console got a front of the bytes that the job sends.
     ensures front { IfSome (F.held files.old) (λ held. IfSome (I.left input.old) (λ bytes.
@@ -142,28 +190,38 @@ pub fn dromajo<F: Files, I: Source, O: Sink, E: Sink>(
 
     // No fault is passed over.
     ensures none_passed_over { IsFinished result → NonePassedOver
-        (counts (F.read_faults files.old) (I.faults input.old)
+        (counts (F.read_faults files.old) (F.write_faults files.old) (I.faults input.old)
         (O.faults out.old) (E.faults report.old))
-        (counts (F.read_faults files.new) (I.faults input.new)
+        (counts (F.read_faults files.new) (F.write_faults files.new) (I.faults input.new)
         (O.faults out.new) (E.faults report.new)) }
     ensures done { result ≡ Status.Done → E.faults report.new ≡ E.faults report.old }
 
     // Each status has its cause.
     ensures causes { HasCause result (job_of (texts words.now.items))
-        (counts (F.read_faults files.old) (I.faults input.old)
+        (counts (F.read_faults files.old) (F.write_faults files.old) (I.faults input.old)
         (O.faults out.old) (E.faults report.old))
-        (counts (F.read_faults files.new) (I.faults input.new)
+        (counts (F.read_faults files.new) (F.write_faults files.new) (I.faults input.new)
         (O.faults out.new) (E.faults report.new)) }
 
     // Words that name no job are said to be none, and then no object was touched but the report.
     ensures usage { job_of (texts words.now.items) ≡ None → IsUsage result
         × (files.new ≡ files.old) × (input.new ≡ input.old) × (out.new ≡ out.old) }
 
-    // The report has the line of the status before it.
+    // The report has the line of the status before it; and where that status is a fault or want of
+    // memory, what the job leaves is that of so many whole turns, as the line says, and a part of
+    // the next one at the most.
     ensures reported { Reported result (job_of (texts words.now.items))
-        (F.held files.old) (I.left input.old) (E.written report.old) (E.written report.new)
+        (record {
+          out = O.written out.old;
+          out_now = O.written out.new;
+          held = F.held files.old;
+          held_now = F.held files.new;
+          input = I.left input.old;
+          input_now = I.left input.new;
+        })
+        (E.written report.old) (E.written report.new)
         (E.faults report.old) (E.faults report.new) }
 {
-    let ended = perform(alloc, words.as_slice(), files, out);
+    let ended = perform(alloc, words.as_slice(), files, input, out);
     finish(alloc, ended, report)
 }

@@ -1,27 +1,42 @@
 // The words of the command line.
 
-ghost use Rattle.std.specs.Prelude.{◌≡◌, ◌∷◌, ◌<◌, ◌==◌, ◌&&◌, [], List, ℕ, None, MatchOption, codes, length, nat_lt, slice_index};
+ghost use Rattle.std.specs.Prelude.{◌≡◌, ◌<◌, ◌==◌, ◌&&◌, List, ℕ, None, IfSome, MatchOption, ◌≤◌, codes, length, nat_lt, slice_index, if◌then◌else◌};
 ghost use Rattle.std.specs.Char.{is_ascii_digit};
 ghost use Rattle.std.specs.List.{list_all};
 ghost use Rattle.std.specs.Option.{option_map};
-ghost use Rattle.dromajo.specs.CommandLine.{is_number, job_of, number_in, run_job as job_of_values, texts};
-ghost use Rattle.dromajo.specs.Walk.{Continues, found_list, job_seen, run_after};
+ghost use Rattle.dromajo.specs.CommandLine.{is_file_name, is_number, job_of, number_in, source_of, texts};
+ghost use Rattle.dromajo.specs.Walk.{Continues, HasFewTurns, found_list, job_seen, run_words, source_seen, text_seen, values_job};
 
 /// The most turns that one call may make.
 pub const MOST_TURNS: u64 = 1_000_000_000;
 
+/// Where the machine and its program come from, by the file's name.
+#[derive(Clone, Copy, PartialEq, Eq, Debug)]
+pub(crate) enum Source<'a> {
+    /// A configuration.
+    Config(&'a str),
+    /// A flat image.
+    Image(&'a str),
+}
+
 /// What the program is asked to do.
-#[derive(Clone, Copy)]
+#[derive(Clone, Copy, PartialEq, Eq, Debug)]
 pub(crate) enum Job<'a> {
-    /// Run the flat image of this file for so many turns.
-    RunImage { image: &'a str, turns: u64 },
+    /// Run for so many turns, and write the trace to the file of this name, if one is given.
+    Run {
+        source: Source<'a>,
+        turns: u64,
+        trace: Option<&'a str>,
+    },
 }
 
 /// The values found under the names of `run`.
 #[derive(Clone, Copy)]
 pub(crate) struct Values<'a> {
     pub(crate) turns: Option<&'a str>,
+    pub(crate) config: Option<&'a str>,
     pub(crate) image: Option<&'a str>,
+    pub(crate) trace: Option<&'a str>,
 }
 
 impl<'a> Values<'a> {
@@ -35,7 +50,25 @@ impl<'a> Values<'a> {
         }
         Some(Values {
             turns: Some(value),
+            config: self.config,
             image: self.image,
+            trace: self.trace,
+        })
+    }
+
+    /// With one more configuration, none where one was given before.
+    fn with_config(self, value: &'a str) -> Option<Values<'a>>
+        ensures { (words : List (List ℕ)) →
+            Continues self.entry result (codes "--config") value.now words }
+    {
+        if self.config.is_some() {
+            return None;
+        }
+        Some(Values {
+            turns: self.turns,
+            config: Some(value),
+            image: self.image,
+            trace: self.trace,
         })
     }
 
@@ -49,7 +82,25 @@ impl<'a> Values<'a> {
         }
         Some(Values {
             turns: self.turns,
+            config: self.config,
             image: Some(value),
+            trace: self.trace,
+        })
+    }
+
+    /// With one more trace file, none where one was given before.
+    fn with_trace(self, value: &'a str) -> Option<Values<'a>>
+        ensures { (words : List (List ℕ)) →
+            Continues self.entry result (codes "--trace") value.now words }
+    {
+        if self.trace.is_some() {
+            return None;
+        }
+        Some(Values {
+            turns: self.turns,
+            config: self.config,
+            image: self.image,
+            trace: Some(value),
         })
     }
 
@@ -60,35 +111,66 @@ impl<'a> Values<'a> {
         if name == "--turns" {
             return self.with_turns(value);
         }
+        if name == "--config" {
+            return self.with_config(value);
+        }
         if name == "--image" {
             return self.with_image(value);
+        }
+        if name == "--trace" {
+            return self.with_trace(value);
         }
         None
     }
 
+    /// The one source among them.
+    fn source(self) -> Option<Source<'a>>
+        ensures { option_map source_seen result
+            ≡ source_of (found_list self.entry.config) (found_list self.entry.image) }
+    {
+        match (self.config, self.image) {
+            (Some(config), None) => file_name(config).map(Source::Config),
+            (None, Some(image)) => file_name(image).map(Source::Image),
+            (Some(_), Some(_)) | (None, None) => None,
+        }
+    }
+
     /// The job of these values.
     fn job(self) -> Option<Job<'a>>
-        ensures { option_map job_seen result
-            ≡ job_of_values (found_list self.entry.turns) (found_list self.entry.image) }
+        ensures job { option_map job_seen result ≡ values_job self.entry }
+        ensures few { IfSome result HasFewTurns }
     {
         let turns = number(self.turns?, MOST_TURNS)?;
-        let image = self.image?;
-        if image.is_empty() {
-            return None;
-        }
-        Some(Job::RunImage { image, turns })
+        let source = self.source()?;
+        let trace = match self.trace {
+            Some(trace) => Some(file_name(trace)?),
+            None => None,
+        };
+        Some(Job::Run {
+            source,
+            turns,
+            trace,
+        })
     }
+}
+
+/// The text, where it may be a file name: none where it is empty.
+fn file_name(text: &str) -> Option<&str>
+    ensures { option_map text_seen result ≡ (if is_file_name text.now then Some text.now else None) }
+{
+    if text.is_empty() { None } else { Some(text) }
 }
 
 /// The values of the pairs after `run`, in one walk.
 fn walk(words: &[String]) -> Option<Values<'_>>
-    ensures { MatchOption result (run_after [] [] (texts words.now) ≡ None) (λ values.
-        run_after [] [] (texts words.now)
-        ≡ job_of_values (found_list values.turns) (found_list values.image)) }
+    ensures { MatchOption result (run_words (texts words.now) ≡ None) (λ values.
+        run_words (texts words.now) ≡ values_job values) }
 {
     let mut values = Values {
         turns: None,
+        config: None,
         image: None,
+        trace: None,
     };
     let mut rest = words;
     while let Some((name, others)) = rest.split_first() {
@@ -106,7 +188,8 @@ fn walk(words: &[String]) -> Option<Values<'_>>
 
 /// The job that the words name, none where they name no job.
 pub(crate) fn named_job(words: &[String]) -> Option<Job<'_>>
-    ensures { option_map job_seen result ≡ job_of (texts words.now) }
+    ensures job { option_map job_seen result ≡ job_of (texts words.now) }
+    ensures few { IfSome result HasFewTurns }
 {
     let Some((command, others)) = words.split_first() else {
         return None;
@@ -119,7 +202,8 @@ pub(crate) fn named_job(words: &[String]) -> Option<Job<'_>>
 
 /// The job of the words after `run`.
 fn run_job(words: &[String]) -> Option<Job<'_>>
-    ensures { option_map job_seen result ≡ run_after [] [] (texts words.now) }
+    ensures job { option_map job_seen result ≡ run_words (texts words.now) }
+    ensures few { IfSome result HasFewTurns }
 {
     match walk(words) {
         Some(values) => values.job(),
@@ -159,7 +243,8 @@ fn is_number(text: &str) -> bool
 /// The number that a text spells, where it is at most `most`.
 #[tactic(auto, unfolding(crate::specs::CommandLine::number_in))]
 fn number(text: &str, most: u64) -> Option<u64>
-    ensures { result ≡ number_in most text.now }
+    ensures value { result ≡ number_in most text.now }
+    ensures within { IfSome result (λ n. n ≤ most) }
 {
     if !is_number(text) {
         return None;

@@ -1,5 +1,5 @@
 use Rattle.std.proofs.Common.{◌≡◌, ◌++◌, string_bytes}
-use Rattle.dromajo.specs.Report.{hex}
+use Rattle.commit_log.specs.Spelling.{hex}
 use Rattle.dromajo.proofs.report.push_hex.Given as goal
 
 -- the digits written, and those still to come, are all the digits

@@ -4,7 +4,7 @@ use Rattle.dromajo.specs.CommandLine.{is_number}
 use Rattle.dromajo.proofs.Numbers.{too_large}
 use Rattle.dromajo.proofs.words.number.Goals as goal
 
-pub returns-in_default : goal.returns-in_default
-returns-in_default c =
+pub returns-in_default-clause-value : goal.returns-in_default-clause-value
+returns-in_default-clause-value c =
     let is : is_number c.args.text.now ≡ true = grind arith in
     sym (too_large c.args.most c.args.text.now c.in_default.field-0 (omega arith) is c.in_default.ensures.value.0)

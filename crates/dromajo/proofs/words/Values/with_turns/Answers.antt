@@ -4,7 +4,7 @@ use Rattle.dromajo.proofs.Pairs.{turns_free, turns_taken}
 use Rattle.dromajo.proofs.words.Values.with_turns.Goals as goal
 
 pub returns-then-is_some : goal.returns-then-is_some
-returns-then-is_some c = λ words. turns_taken c.args.self.turns c.args.self.image c.args.value.now words (sym c.is_some.ensures ∙ c.if-is_some.true)
+returns-then-is_some c = λ words. turns_taken c.args.self.turns c.args.self.config c.args.self.image c.args.self.trace c.args.value.now words (sym c.is_some.ensures ∙ c.if-is_some.true)
 
 pub returns : goal.returns
-returns c = λ words. turns_free c.args.self.turns c.args.self.image c.args.value.now words (sym c.is_some.ensures ∙ c.if-is_some.false)
+returns c = λ words. turns_free c.args.self.turns c.args.self.config c.args.self.image c.args.self.trace c.args.value.now words (sym c.is_some.ensures ∙ c.if-is_some.false)

@@ -1,0 +1,18 @@
+use Rattle.std.proofs.Common.{◌≡◌, ◌≤◌, ◌-◌, IfSome, length, take}
+use Rattle.outside_io.specs.Content.{file_of}
+use Rattle.dromajo.proofs.Telling.{StaysTold}
+use Rattle.dromajo.proofs.reading.fill.Given as goal
+
+-- the first bytes of the file stand in the buffer
+abbrev pub invariant-loop-done : goal.invariant-loop-done
+invariant-loop-done g l = record {
+  within : l.done ≤ length l.buf;
+  same_length : length l.buf ≡ length l.fn.buf;
+  front : IfSome (g.F.Files.held l.fn.files) (λ held. take l.done l.buf ≡ take l.done (file_of held l.name));
+  content : StaysTold (g.F.Files.held l.fn.files) (g.F.Files.held l.files);
+  count : g.F.Files.read_faults l.files ≡ g.F.Files.read_faults l.fn.files;
+  other_count : g.F.Files.write_faults l.files ≡ g.F.Files.write_faults l.fn.files;
+}
+
+abbrev pub decreases-loop-done : goal.decreases-loop-done
+decreases-loop-done g l = length l.buf - l.done

@@ -1,0 +1,299 @@
+// Runs of the whole program without a trace. The words of the programs are an assembler's (llvm-mc), each
+// with its assembly beside it, and what comes of them is reckoned by hand.
+
+use crate::test_support::{Outside, Row, elf, expect_row, image_of};
+use outside_io::Source;
+use std::test::Fail;
+
+// A letter to the console.
+const LETTER: [u32; 4] = [
+    0x0410_0293, // addi x5,x0,0x41
+    0x1000_0337, // lui x6,0x10000
+    0x0053_0023, // sb x5,0(x6)
+    0x0000_006f, // jal x0,0
+];
+
+// Numbers of turns, the order of the words, and files that are not there or say nothing.
+static LETTERS: [Row; 6] = [
+    Row {
+        line: "run --image a.bin --turns 1",
+        code: 0,
+        report: "done turns=1 taken=0\n",
+        console: "A",
+        trace: None,
+        left: "",
+    },
+    Row {
+        line: "run --turns 1 --image a.bin",
+        code: 0,
+        report: "done turns=1 taken=0\n",
+        console: "A",
+        trace: None,
+        left: "",
+    },
+    Row {
+        line: "run --image a.bin --turns 0",
+        code: 0,
+        report: "done turns=0 taken=0\n",
+        console: "",
+        trace: None,
+        left: "",
+    },
+    Row {
+        line: "run --image a.bin --turns 12345",
+        code: 0,
+        report: "done turns=12345 taken=0\n",
+        console: "A",
+        trace: None,
+        left: "",
+    },
+    Row {
+        line: "run --image b.bin --turns 1",
+        code: 7,
+        report: "read fault files\n",
+        console: "",
+        trace: None,
+        left: "",
+    },
+    Row {
+        line: "run --config c --turns 1",
+        code: 3,
+        report: "config not-json\n",
+        console: "",
+        trace: None,
+        left: "",
+    },
+];
+
+#[test]
+fn an_image_sends_a_letter_in_the_first_turn(rt: HostRuntime) -> Result<(), Fail> {
+    for row in LETTERS {
+        let mut outside = Outside::new(rt.alloc(), "", &LETTER, b"")?;
+        expect_row(&rt, rt.alloc(), &mut outside, &row)?;
+        let image = image_of(rt.alloc(), &LETTER)?;
+        assert!(rt; outside.files.bytes("a.bin") == Some(image.as_slice()));
+    }
+    Ok(())
+}
+
+// Words that name no job.
+static NO_JOBS: [&str; 12] = [
+    "run --turns 3",
+    "run --image a.bin --turns 1 --turns 2",
+    "run --image a.bin --turns 01",
+    "",
+    "run --image a.bin",
+    "run --image a.bin --config c --turns 1",
+    "run --image a.bin --turns 1000000001",
+    "run --image a.bin --turns 1 --trace",
+    "run --image a.bin --turns 1 --trace ",
+    "run --image a.bin --turns 1 --name t",
+    "walk --image a.bin --turns 1",
+    "--help",
+];
+
+#[test]
+fn words_that_name_no_job_touch_nothing(rt: HostRuntime) -> Result<(), Fail> {
+    for line in NO_JOBS {
+        let mut outside = Outside::new(rt.alloc(), "", &LETTER, b"in")?;
+        // the first call of each would fail
+        outside.fail_at([1, 0, 1, 0])?;
+        let row = Row {
+            line,
+            code: 2,
+            report: "usage: dromajo command --name value\n",
+            console: "",
+            trace: None,
+            left: "in",
+        };
+        expect_row(&rt, rt.alloc(), &mut outside, &row)?;
+    }
+    Ok(())
+}
+
+// A jump to itself.
+const WAITS: [u32; 1] = [
+    0x0000_006f, // jal x0,0
+];
+
+// The input, how many bytes of it are taken, and how many reads are made in twenty turns: after the
+// sixteenth byte the queue is full, and one that was read is offered on; at the end of the input no more
+// is read.
+static INPUTS: [(&str, &str, u64); 4] = [
+    ("", "done turns=20 taken=0\n", 1),
+    ("a", "done turns=20 taken=1\n", 2),
+    ("abcdefghijklmnop", "done turns=20 taken=16\n", 17),
+    ("abcdefghijklmnopq", "done turns=20 taken=16\n", 17),
+];
+
+#[test]
+fn a_byte_is_read_where_the_last_one_was_taken(rt: HostRuntime) -> Result<(), Fail> {
+    for (bytes, report, reads) in INPUTS {
+        let mut outside = Outside::new(rt.alloc(), "", &WAITS, bytes.as_bytes())?;
+        outside.fail_at([0, reads.wrapping_add(1), 0, 0])?;
+        assert_eq!(rt;
+            outside.call(rt.alloc(), "run --image a.bin --turns 20")?,
+            0,
+            "{bytes}"
+        );
+        assert_eq!(rt; outside.report.bytes(), report.as_bytes(), "{bytes}");
+        // the call that was to fail is the next one
+        let mut buf = [0u8; 2];
+        assert!(rt; outside.input.read(&mut buf).is_err(), "{bytes}");
+        assert_eq!(rt; outside.input.read(&mut buf), Ok(0), "{bytes}");
+        let mut failing = Outside::new(rt.alloc(), "", &WAITS, bytes.as_bytes())?;
+        failing.fail_at([0, reads, 0, 0])?;
+        assert_eq!(rt;
+            failing.call(rt.alloc(), "run --image a.bin --turns 20")?,
+            7,
+            "{bytes}"
+        );
+        assert_eq!(rt;
+            failing.report.bytes(),
+            b"read fault input\n".as_slice(),
+            "{bytes}"
+        );
+    }
+    Ok(())
+}
+
+#[test]
+fn an_image_has_at_most_the_memory(rt: HostRuntime) -> Result<(), Fail> {
+    for (len, code, report) in [
+        (65_536, 0, "done turns=1 taken=0\n"),
+        (65_537, 4, "elf outside-ram 0\n"),
+    ] {
+        let mut outside = Outside::new(rt.alloc(), "", &WAITS, b"")?;
+        let mut image = image_of(rt.alloc(), &WAITS)?;
+        for _ in image.len()..len {
+            image.push(0)?;
+        }
+        outside.files.put("a.bin", &image)?;
+        let row = Row {
+            line: "run --image a.bin --turns 1",
+            code,
+            report,
+            console: "",
+            trace: None,
+            left: "",
+        };
+        expect_row(&rt, rt.alloc(), &mut outside, &row)?;
+    }
+    Ok(())
+}
+
+const LARGE: &str = "{\"harts\":1,\"ram\":67108864,\"slice\":64,\"program\":\"p.elf\"}";
+
+// A program that stores a number in the host window, which its symbol names:
+//     addi x5,x0,NUMBER
+//     auipc x6,1
+//     sd x5,-4(x6)
+//     jal x0,0
+// The configuration, the number's word, the input, the status's number, the report and what the input has
+// left.
+type Window = (
+    &'static str,
+    u32,
+    &'static str,
+    u8,
+    &'static str,
+    &'static str,
+);
+
+static WINDOWS: [Window; 11] = [
+    // 1
+    (LARGE, 0x0010_0293, "", 0, "done turns=1 taken=0\n", ""),
+    // 3
+    (
+        LARGE,
+        0x0030_0293,
+        "",
+        10,
+        "guest ended code=1 turn=1\n",
+        "",
+    ),
+    // 2
+    (
+        LARGE,
+        0x0020_0293,
+        "",
+        11,
+        "bad host word=0000000000000002 turn=1\n",
+        "",
+    ),
+    // the byte that was offered to the turn was read, and is not taken
+    (LARGE, 0x0010_0293, "xy", 0, "done turns=1 taken=0\n", "y"),
+    (
+        LARGE,
+        0x0030_0293,
+        "xy",
+        10,
+        "guest ended code=1 turn=1\n",
+        "y",
+    ),
+    (
+        LARGE,
+        0x0020_0293,
+        "xy",
+        11,
+        "bad host word=0000000000000002 turn=1\n",
+        "y",
+    ),
+    // -1
+    (
+        LARGE,
+        0xfff0_0293,
+        "xy",
+        11,
+        "bad host word=ffffffffffffffff turn=1\n",
+        "y",
+    ),
+    // 0, which says nothing: all turns are made, and both bytes are taken
+    (LARGE, 0x0000_0293, "xy", 0, "done turns=1000 taken=2\n", ""),
+    // the window is turned off
+    (
+        "{\"harts\":1,\"ram\":65536,\"slice\":64,\"program\":\"p.elf\",\"tohost\":0}",
+        0x0030_0293,
+        "xy",
+        0,
+        "done turns=1000 taken=2\n",
+        "",
+    ),
+    (
+        "{\"harts\":1,\"ram\":67108864,\"program\":\"p.elf\"}",
+        0x0010_0293,
+        "xy",
+        3,
+        "config missing slice\n",
+        "xy",
+    ),
+    (
+        "{\"harts\":1,\"ram\":67108864,\"slice\":\"1\",\"program\":\"p.elf\"}",
+        0x0010_0293,
+        "xy",
+        3,
+        "config wrong-kind slice\n",
+        "xy",
+    ),
+];
+
+#[test]
+fn a_word_in_the_window_ends_the_run_and_leaves_the_offered_byte(
+    rt: HostRuntime,
+) -> Result<(), Fail> {
+    for (config, word, input, code, report, left) in WINDOWS {
+        let mut outside = Outside::new(rt.alloc(), config, &LETTER, input.as_bytes())?;
+        let program = elf(&rt, (120, 4, u64::from(word)));
+        outside.files.put("p.elf", &program)?;
+        let row = Row {
+            line: "run --config c --turns 1000",
+            code,
+            report,
+            console: "",
+            trace: None,
+            left,
+        };
+        expect_row(&rt, rt.alloc(), &mut outside, &row)?;
+    }
+    Ok(())
+}

@@ -1,0 +1,257 @@
+// Runs of the whole program with a trace. The words of the programs are an assembler's (llvm-mc), each with
+// its assembly beside it, and the lines are reckoned by hand.
+
+use crate::test_support::{
+    Outside, Row, expect_file, expect_row, expect_written, program_of, words_of,
+};
+use crate::top::dromajo;
+use outside_io::DirFiles;
+use std::fs;
+use std::test::Fail;
+
+// A configuration, a program and a call.
+type Traced = (&'static str, &'static [u32], Row);
+
+const ONE_STEP: &str = "{\"harts\":1,\"ram\":65536,\"slice\":1,\"program\":\"p.elf\"}";
+
+const TWO_HARTS: &str = "{\"harts\":2,\"ram\":65536,\"slice\":1,\"program\":\"p.elf\"}";
+
+const WINDOW: &str =
+    "{\"harts\":1,\"ram\":65536,\"slice\":5,\"program\":\"p.elf\",\"tohost\":2147487744}";
+
+// Hart 0 reserves and stores at 0x80000100, and hart 1 goes to the ninth word, which does nothing.
+const RESERVES: [u32; 10] = [
+    0xf140_2573, // csrrs x10,mhartid,x0
+    0x0000_0597, // auipc x11,0
+    0x0fc5_8593, // addi x11,x11,0xfc
+    0x0005_1a63, // bne x10,x0,0x14
+    0x1005_a62f, // lr.w x12,(x11)
+    0x18b5_a6af, // sc.w x13,x11,(x11)
+    0x0005_a703, // lw x14,0(x11)
+    0x0000_006f, // jal x0,0
+    0x0000_0013, // addi x0,x0,0
+    0x0000_006f, // jal x0,0
+];
+
+// The same, and the ninth word stores into the reserved bytes.
+const DISTURBS: [u32; 10] = [
+    0xf140_2573, // csrrs x10,mhartid,x0
+    0x0000_0597, // auipc x11,0
+    0x0fc5_8593, // addi x11,x11,0xfc
+    0x0005_1a63, // bne x10,x0,0x14
+    0x1005_a62f, // lr.w x12,(x11)
+    0x18b5_a6af, // sc.w x13,x11,(x11)
+    0x0005_a703, // lw x14,0(x11)
+    0x0000_006f, // jal x0,0
+    0x00b5_83a3, // sb x11,7(x11)
+    0x0000_006f, // jal x0,0
+];
+
+// A load where no memory and no device is.
+const NOWHERE: [u32; 2] = [
+    0x0001_02b7, // lui x5,0x10
+    0x0002_a303, // lw x6,0(x5)
+];
+
+// A word that sends a letter through the host window.
+const SENDS: [u32; 6] = [
+    0x1010_0293, // addi x5,x0,0x101
+    0x0302_9293, // slli x5,x5,0x30
+    0x0412_e293, // ori x5,x5,0x41
+    0x0000_1317, // auipc x6,1
+    0xfe53_3a23, // sd x5,-12(x6)
+    0x0000_006f, // jal x0,0
+];
+
+static TRACED: [Traced; 5] = [
+    (
+        TWO_HARTS,
+        &RESERVES,
+        Row {
+            line: "run --config c --turns 7 --trace t",
+            code: 0,
+            report: "done turns=7 taken=0\n",
+            console: "",
+            trace: Some(
+                "C 0 M 0000000080000000 f1402573 x10 0000000000000000\n\
+                 C 1 M 0000000080000000 f1402573 x10 0000000000000001\n\
+                 C 0 M 0000000080000004 00000597 x11 0000000080000004\n\
+                 C 1 M 0000000080000004 00000597 x11 0000000080000004\n\
+                 C 0 M 0000000080000008 0fc58593 x11 0000000080000100\n\
+                 C 1 M 0000000080000008 0fc58593 x11 0000000080000100\n\
+                 C 0 M 000000008000000c 00051a63\n\
+                 C 1 M 000000008000000c 00051a63\n\
+                 C 0 M 0000000080000010 1005a62f x12 0000000000000000\n\
+                 C 1 M 0000000080000020 00000013\n\
+                 C 0 M 0000000080000014 18b5a6af x13 0000000000000000 st 0000000080000100 4 80000100\n\
+                 C 1 M 0000000080000024 0000006f\n\
+                 C 0 M 0000000080000018 0005a703 x14 ffffffff80000100\n\
+                 C 1 M 0000000080000024 0000006f\n",
+            ),
+            left: "",
+        },
+    ),
+    (
+        TWO_HARTS,
+        &DISTURBS,
+        Row {
+            line: "run --config c --turns 7 --trace t",
+            code: 0,
+            report: "done turns=7 taken=0\n",
+            console: "",
+            trace: Some(
+                "C 0 M 0000000080000000 f1402573 x10 0000000000000000\n\
+                 C 1 M 0000000080000000 f1402573 x10 0000000000000001\n\
+                 C 0 M 0000000080000004 00000597 x11 0000000080000004\n\
+                 C 1 M 0000000080000004 00000597 x11 0000000080000004\n\
+                 C 0 M 0000000080000008 0fc58593 x11 0000000080000100\n\
+                 C 1 M 0000000080000008 0fc58593 x11 0000000080000100\n\
+                 C 0 M 000000008000000c 00051a63\n\
+                 C 1 M 000000008000000c 00051a63\n\
+                 C 0 M 0000000080000010 1005a62f x12 0000000000000000\n\
+                 C 1 M 0000000080000020 00b583a3 st 0000000080000107 1 00\n\
+                 C 0 M 0000000080000014 18b5a6af x13 0000000000000001\n\
+                 C 1 M 0000000080000024 0000006f\n\
+                 C 0 M 0000000080000018 0005a703 x14 0000000000000000\n\
+                 C 1 M 0000000080000024 0000006f\n",
+            ),
+            left: "",
+        },
+    ),
+    (
+        ONE_STEP,
+        &NOWHERE,
+        Row {
+            line: "run --config c --turns 2 --trace t",
+            code: 0,
+            report: "done turns=2 taken=0\n",
+            console: "",
+            trace: Some(
+                "C 0 M 0000000080000000 000102b7 x5 0000000000010000\n\
+                 X 0 M 0000000080000004 5 0000000000010000\n",
+            ),
+            left: "",
+        },
+    ),
+    (
+        WINDOW,
+        &SENDS,
+        Row {
+            line: "run --config c --turns 1 --trace t",
+            code: 0,
+            report: "done turns=1 taken=0\n",
+            console: "A",
+            trace: Some(
+                "C 0 M 0000000080000000 10100293 x5 0000000000000101\n\
+                 C 0 M 0000000080000004 03029293 x5 0101000000000000\n\
+                 C 0 M 0000000080000008 0412e293 x5 0101000000000041\n\
+                 C 0 M 000000008000000c 00001317 x6 000000008000100c\n\
+                 C 0 M 0000000080000010 fe533a23 st 0000000080001000 8 0101000000000041\n\
+                 H 0101000000000041\n",
+            ),
+            left: "",
+        },
+    ),
+    // the empty image: the word of zeros is no instruction, and the handler at 0 is no memory
+    (
+        "",
+        &[],
+        Row {
+            line: "run --image a.bin --turns 1 --trace t",
+            code: 0,
+            report: "done turns=1 taken=0\n",
+            console: "",
+            trace: Some(
+                "X 0 M 0000000080000000 2 0000000000000000\n\
+                 X 0 M 0000000000000000 1 0000000000000000\n\
+                 X 0 M 0000000000000000 1 0000000000000000\n\
+                 X 0 M 0000000000000000 1 0000000000000000\n\
+                 X 0 M 0000000000000000 1 0000000000000000\n\
+                 X 0 M 0000000000000000 1 0000000000000000\n\
+                 X 0 M 0000000000000000 1 0000000000000000\n\
+                 X 0 M 0000000000000000 1 0000000000000000\n\
+                 X 0 M 0000000000000000 1 0000000000000000\n\
+                 X 0 M 0000000000000000 1 0000000000000000\n\
+                 X 0 M 0000000000000000 1 0000000000000000\n\
+                 X 0 M 0000000000000000 1 0000000000000000\n\
+                 X 0 M 0000000000000000 1 0000000000000000\n\
+                 X 0 M 0000000000000000 1 0000000000000000\n\
+                 X 0 M 0000000000000000 1 0000000000000000\n\
+                 X 0 M 0000000000000000 1 0000000000000000\n",
+            ),
+            left: "",
+        },
+    ),
+];
+
+#[test]
+fn each_step_has_its_line(rt: HostRuntime) -> Result<(), Fail> {
+    for (config, program, row) in TRACED {
+        let mut outside = Outside::new(rt.alloc(), config, program, b"")?;
+        outside.files.put("t", b"what stood there before\n")?;
+        expect_row(&rt, rt.alloc(), &mut outside, &row)?;
+        expect_file(&rt, &outside, "c", Some(config), row.line);
+    }
+    Ok(())
+}
+
+#[test]
+fn the_configuration_is_read_before_a_trace_takes_its_place(rt: HostRuntime) -> Result<(), Fail> {
+    let mut outside = Outside::new(rt.alloc(), ONE_STEP, &NOWHERE, b"")?;
+    let row = Row {
+        line: "run --config c --turns 1 --trace c",
+        code: 0,
+        report: "done turns=1 taken=0\n",
+        console: "",
+        trace: None,
+        left: "",
+    };
+    expect_row(&rt, rt.alloc(), &mut outside, &row)?;
+    let line = "C 0 M 0000000080000000 000102b7 x5 0000000000010000\n";
+    expect_file(&rt, &outside, "c", Some(line), row.line);
+    Ok(())
+}
+
+// Names of a trace, the status's number and the report: the second one is in a folder that is not there.
+static PATHS: [(&str, u8, &str); 2] = [
+    (
+        "run --config c --turns 2 --trace t",
+        0,
+        "done turns=2 taken=0\n",
+    ),
+    (
+        "run --config c --turns 2 --trace absent/t",
+        8,
+        "write fault files\n",
+    ),
+];
+
+#[test]
+fn a_trace_is_written_to_the_file_system(rt: HostRuntime) -> Result<(), Fail> {
+    fs::write(&rt, "c", ONE_STEP)?;
+    let program = program_of(rt.alloc(), &NOWHERE)?;
+    fs::write(&rt, "p.elf", program.as_slice())?;
+    for (line, code, report) in PATHS {
+        let mut files = DirFiles::new(&rt);
+        let mut outside = Outside::new(rt.alloc(), "", &[], b"")?;
+        let words = words_of(rt.alloc(), line)?;
+        let status = dromajo(
+            rt.alloc(),
+            &words,
+            &mut files,
+            &mut outside.input,
+            &mut outside.out,
+            &mut outside.report,
+        );
+        assert_eq!(rt; status.code(), code, "{line}");
+        expect_written(&rt, &outside, report, "", line);
+    }
+    let trace = fs::read_to_string(&rt, "t")?;
+    let lines = "C 0 M 0000000080000000 000102b7 x5 0000000000010000\n\
+                 X 0 M 0000000080000004 5 0000000000010000\n";
+    assert_eq!(rt; trace.as_str(), lines);
+    for name in ["c", "p.elf", "t"] {
+        fs::remove_file(&rt, name)?;
+    }
+    Ok(())
+}

@@ -1,0 +1,239 @@
+// The job of the words, the numbers of the statuses and the report's texts, as the program's documents
+// put them.
+
+use crate::report::report_line;
+use crate::status::{Status, Which};
+use crate::test_support::words_of;
+use crate::words::{Job, Source, named_job};
+use elf_load::{ElfFault, ElfField};
+use sim_config::{ConfigFault, Key};
+use std::alloc::{AllocError, Global};
+use std::process::Abort;
+
+// Words, and the source, the turns and the trace of the job that they name.
+static JOBS: [(&str, Source<'static>, u64, Option<&str>); 7] = [
+    (
+        "run --image a.bin --turns 1",
+        Source::Image("a.bin"),
+        1,
+        None,
+    ),
+    (
+        "run --turns 1 --image a.bin",
+        Source::Image("a.bin"),
+        1,
+        None,
+    ),
+    ("run --config c --turns 0", Source::Config("c"), 0, None),
+    (
+        "run --config c --turns 7 --trace t",
+        Source::Config("c"),
+        7,
+        Some("t"),
+    ),
+    (
+        "run --trace t --turns 1000000000 --config c",
+        Source::Config("c"),
+        1_000_000_000,
+        Some("t"),
+    ),
+    (
+        "run --trace e --image e --turns 12345",
+        Source::Image("e"),
+        12_345,
+        Some("e"),
+    ),
+    (
+        "run --image --image --turns 1",
+        Source::Image("--image"),
+        1,
+        None,
+    ),
+];
+
+// Words that name no job.
+static NO_JOBS: [&str; 30] = [
+    "",
+    "run",
+    "--help",
+    "--version",
+    "--image a --turns 1",
+    "walk --image a --turns 1",
+    "Run --image a --turns 1",
+    "run --turns 3",
+    "run --image a",
+    "run --config c",
+    "run --config c --trace t",
+    "run --image a --turns 1 --turns 2",
+    "run --image a --image a --turns 1",
+    "run --config c --config c --turns 1",
+    "run --image a --turns 1 --trace t --trace t",
+    "run --image a --config c --turns 1",
+    "run --config c --image a --turns 1",
+    "run --image a --turns 01",
+    "run --image a --turns +1",
+    "run --image a --turns -1",
+    "run --image a --turns 1x",
+    "run --image a --turns ",
+    "run --image a --turns 1000000001",
+    "run --image a --turns 18446744073709551616",
+    "run --image  --turns 1",
+    "run --config  --turns 1",
+    "run --image a --turns 1 --trace ",
+    "run --image a --turns 1 --trace",
+    "run --image a --turns 1 --dis d",
+    "run image a --turns 1",
+];
+
+#[test]
+fn words_name_their_job(rt: HostRuntime) -> Result<(), AllocError> {
+    for (line, source, turns, trace) in JOBS {
+        let words = words_of(rt.alloc(), line)?;
+        let want = Job::Run {
+            source,
+            turns,
+            trace,
+        };
+        assert_eq!(rt; named_job(&words), Some(want), "{line}");
+    }
+    for line in NO_JOBS {
+        let words = words_of(rt.alloc(), line)?;
+        assert_eq!(rt; named_job(&words), None, "{line}");
+    }
+    Ok(())
+}
+
+// The keys as they are spelled.
+static KEYS: [(Key, &str); 9] = [
+    (Key::Top, "top"),
+    (Key::Harts, "harts"),
+    (Key::Ram, "ram"),
+    (Key::Rom, "rom"),
+    (Key::Slice, "slice"),
+    (Key::Program, "program"),
+    (Key::Taken, "taken"),
+    (Key::Tohost, "tohost"),
+    (Key::Version, "version"),
+];
+
+// Why a program is refused, and how that is reported.
+static ELF_FAULTS: [(ElfFault, &str); 15] = [
+    (ElfFault::NotElf, "elf not-elf"),
+    (ElfFault::WrongKind(ElfField::Class), "elf wrong-kind class"),
+    (ElfFault::WrongKind(ElfField::Order), "elf wrong-kind order"),
+    (ElfFault::WrongKind(ElfField::Type2), "elf wrong-kind type"),
+    (
+        ElfFault::WrongKind(ElfField::Machine),
+        "elf wrong-kind machine",
+    ),
+    (
+        ElfFault::WrongKind(ElfField::Phentsize),
+        "elf wrong-kind phentsize",
+    ),
+    (ElfFault::WrongKind(ElfField::Entry), "elf wrong-kind entry"),
+    (
+        ElfFault::WrongKind(ElfField::Shentsize),
+        "elf wrong-kind shentsize",
+    ),
+    (ElfFault::WrongKind(ElfField::Link), "elf wrong-kind link"),
+    (
+        ElfFault::WrongKind(ElfField::Tohost),
+        "elf wrong-kind tohost",
+    ),
+    (ElfFault::Truncated(64), "elf truncated 64"),
+    (ElfFault::OutsideRam(0), "elf outside-ram 0"),
+    (ElfFault::OutsideRam(65_535), "elf outside-ram 65535"),
+    (ElfFault::Shrinks(3), "elf shrinks 3"),
+    (ElfFault::TooLong(67_108_865), "elf too-long 67108865"),
+];
+
+// The status has this number and this line, after 12 turns that took 17 bytes.
+fn expect(
+    rt: &impl Abort,
+    alloc: Global,
+    status: Status,
+    code: u8,
+    text: &str,
+) -> Result<(), AllocError> {
+    assert_eq!(rt; status.code(), code, "{text}");
+    let line = report_line(alloc, &status, 12, 17)?;
+    assert_eq!(rt; line.as_str().strip_suffix('\n'), Some(text));
+    Ok(())
+}
+
+#[test]
+fn a_refused_file_is_reported_by_its_fault(rt: HostRuntime) -> Result<(), AllocError> {
+    let alloc = rt.alloc();
+    for (key, name) in KEYS {
+        let missing = format!(in alloc; "config missing {name}")?;
+        let status = Status::BadConfig(ConfigFault::Missing(key));
+        expect(&rt, alloc, status, 3, missing.as_str())?;
+        let wrong_kind = format!(in alloc; "config wrong-kind {name}")?;
+        let status = Status::BadConfig(ConfigFault::WrongKind(key));
+        expect(&rt, alloc, status, 3, wrong_kind.as_str())?;
+        let out_of_range = format!(in alloc; "config out-of-range {name}")?;
+        let status = Status::BadConfig(ConfigFault::OutOfRange(key));
+        expect(&rt, alloc, status, 3, out_of_range.as_str())?;
+    }
+    for (fault, text) in ELF_FAULTS {
+        expect(&rt, alloc, Status::BadElf(fault), 4, text)?;
+    }
+    Ok(())
+}
+
+// Numbers of codes, turns and host words, and the end of a guest and of a run that are reported by them.
+static ENDS: [(u64, u64, &str, &str); 3] = [
+    (
+        1,
+        12,
+        "guest ended code=1 turn=12",
+        "bad host word=0000000000000001 turn=12",
+    ),
+    (
+        2,
+        1,
+        "guest ended code=2 turn=1",
+        "bad host word=0000000000000002 turn=1",
+    ),
+    (
+        0xfedc_ba98_7654_3210,
+        1_000_000_000,
+        "guest ended code=18364758544493064720 turn=1000000000",
+        "bad host word=fedcba9876543210 turn=1000000000",
+    ),
+];
+
+#[test]
+fn an_end_is_reported_by_its_numbers(rt: HostRuntime) -> Result<(), AllocError> {
+    let alloc = rt.alloc();
+    for (n, turn, ended, bad) in ENDS {
+        expect(&rt, alloc, Status::GuestEnded { code: n, turn }, 10, ended)?;
+        expect(&rt, alloc, Status::BadHostWord { word: n, turn }, 11, bad)?;
+    }
+    Ok(())
+}
+
+#[test]
+fn other_statuses_have_their_number_and_line(rt: HostRuntime) -> Result<(), AllocError> {
+    let alloc = rt.alloc();
+    expect(&rt, alloc, Status::Done, 0, "done turns=12 taken=17")?;
+    let usage = "usage: dromajo command --name value";
+    expect(&rt, alloc, Status::Usage, 2, usage)?;
+    let not_json = Status::BadConfig(ConfigFault::NotJson);
+    expect(&rt, alloc, not_json, 3, "config not-json")?;
+    let too_long = Status::BadConfig(ConfigFault::TooLong(65_537));
+    expect(&rt, alloc, too_long, 3, "config too-long 65537")?;
+    expect(&rt, alloc, Status::NoMemory, 9, "no memory")?;
+    for (which, name) in [
+        (Which::Files, "files"),
+        (Which::Input, "input"),
+        (Which::Out, "out"),
+        (Which::Report, "report"),
+    ] {
+        let read = format!(in alloc; "read fault {name}")?;
+        expect(&rt, alloc, Status::ReadFault(which), 7, read.as_str())?;
+        let write = format!(in alloc; "write fault {name}")?;
+        expect(&rt, alloc, Status::WriteFault(which), 8, write.as_str())?;
+    }
+    Ok(())
+}
