@@ -548,7 +548,10 @@ def virtual():
             ("M", 0, low, L), ("M", 0, 0x80003008, L), ("M", MPRV | 0x800, low, L), ("M", MPRV | 0x800, low, D), ("M", MPRV | 0x800, user, L),
             ("M", MPRV | 0x800 | SUM, user, L), ("M", MPRV, low, L), ("M", MPRV, user, L), ("M", MPRV, user, D), ("M", MPRV, user, "lr.d x12,(x10)"),
             ("M", MPRV | 0x800, V + 0x1000, D), ("M", MPRV | 0x800, V + 0x1000, L), ("M", MPRV | 0x1800, low, L), ("M", MPRV | 0x1800, 0x80003008, D),
-            ("M", MPRV | 0x800, V + 0x1001, "lw x12,0(x10)"), ("M", 0, low, D)]
+            ("M", MPRV | 0x800, V + 0x1001, "lw x12,0(x10)"), ("M", 0, low, D),
+            # a device through a page, and at its own address where no page has that
+            ("M", MPRV | 0x800, console, Sb), ("M", MPRV | 0x800, console + 4, "lwu x12,0(x10)"),
+            ("M", MPRV | 0x800, console + 4, "amoadd.w x12,x31,(x10)"), ("M", MPRV | 0x800, 0x10000000, Sb), ("M", 0, 0x10000000, Sb)]
     translated("TRANSLATED", "Loads and stores under the page tables. Root entry 3 names a table outside RAM.", rows)
 
 

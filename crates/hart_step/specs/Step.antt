@@ -134,12 +134,13 @@ pub record StepLeaves {A : Type 0} (loaded_by : A → ℕ → ℕ → ℕ → A)
 
 -- ---- the step of a core
 
--- a hart without its reservation, where one of the size bytes from an address lies in it
+-- whether one of the size bytes from an address is among the eight that are reserved
 -- (Unprivileged ISA, "Load-Reserved/Store-Conditional Instructions")
 abbrev pub is_touched : ℕ → ℕ → Option ℕ → Bool
 is_touched at size None = false
 is_touched at size (Some reserved) = nat_lt reserved (at + size) && nat_lt at (reserved + 8)
 
+-- a hart that loses a reservation which is touched
 abbrev pub without_reservation : ℕ → ℕ → Hart → Hart
 without_reservation at size hart = if is_touched at size hart.reservation then record hart { reservation = None } else hart
 

@@ -96,8 +96,8 @@ pub(crate) fn store_conditional<A: Answers>(
     ensures fit { StaysFit hart.old hart.new }
 {
     let next = following(hart, site.len);
-    let at = memory.ram_address(hart, Kind::Store, size, hart.x(rs1))?;
-    let value = hart.x(rs2);
+    let (address, value) = (hart.x(rs1), hart.x(rs2));
+    let at = memory.ram_address(hart, Kind::Store, size, address)?;
     let wins = has_reserved(hart, at) && answers.sc_may_win(site.hart);
     hart.reservation = None;
     if !wins {

@@ -26,6 +26,8 @@ mod tests;
 #[cfg(test)]
 mod tests_atomic;
 #[cfg(test)]
+mod tests_devices;
+#[cfg(test)]
 mod tests_memory;
 #[cfg(test)]
 mod tests_registers;

@@ -11,7 +11,7 @@ use crate::answers::Answers;
 use crate::cores::Core;
 use crate::event::{Event, Priv, Put};
 use csr_file::CsrFile;
-use csr_file::numbers::{MCYCLE, MINSTRET, MIP};
+use csr_file::numbers::{MCAUSE, MCYCLE, MEPC, MINSTRET, MIP, MSTATUS, MTVAL};
 use guest_ram::{BASE, GuestRam};
 use rv_alu::Mode;
 use std::alloc::{AllocError, Global};
@@ -501,6 +501,35 @@ fn entering(
     Ok(ram)
 }
 
+/// `mepc`, `mcause`, `mtval` and `mstatus`.
+#[tactic(auto, unfolding(csr_file::specs::Legal::keeps_value, csr_file::specs::Legal::slots, csr_file::specs::Legal::kept_slots, csr_file::specs::Kept::kept_value, csr_file::specs::Numbers::is_listed))]
+fn trap_registers(csrs: &CsrFile) -> (u64, u64, u64, u64) {
+    (
+        csrs.kept(MEPC),
+        csrs.kept(MCAUSE),
+        csrs.kept(MTVAL),
+        csrs.kept(MSTATUS),
+    )
+}
+
+/// What `mstatus` is after an exception into machine mode in a mode that was entered with this status: the
+/// return to a mode below set MIE to MPIE and cleared MPRV, and the entry set MPIE to MIE, MIE to 0 and MPP
+/// to the mode.
+fn status_after(before: Before) -> u64 {
+    let kept = before.status & 0x7e_0122;
+    let enabled = if before.mode == Priv::M {
+        before.status & 8 != 0
+    } else {
+        before.status & 0x80 != 0
+    };
+    let left = match before.mode {
+        Priv::U => kept & 0x7c_0122,
+        Priv::S => kept & 0x7c_0122 | 0x800,
+        _ => kept | 0x1800,
+    };
+    0xa_0000_0000 | left | if enabled { 0x80 } else { 0 }
+}
+
 /// Tries a word in a mode; an exception goes to machine mode at address 0.
 pub(crate) fn try_in(
     rt: &impl Abort,
@@ -517,10 +546,15 @@ pub(crate) fn try_in(
     let row = (0, before.mode, BASE + 0x30, word, did);
     compare(rt, &mut core, &mut fixed, row, u64::from(word));
     assert!(rt; 0 < core.harts());
-    if let Did::Raised(_, _) = did {
+    if let Did::Raised(cause, tval) = did {
         assert_eq!(rt;
             (core.hart(0).pc(), core.hart(0).mode()),
             (0, Mode::M),
+            "{word}"
+        );
+        assert_eq!(rt;
+            trap_registers(core.hart(0).csrs()),
+            (BASE + 0x30, u64::from(cause), tval, status_after(before)),
             "{word}"
         );
     }

@@ -4,7 +4,9 @@ use crate::cores::Core;
 use crate::event::Priv;
 use crate::event::Priv::M;
 use crate::tests::Did::{Holds, HoldsNothing, Passed, Raised, Stored, Updated, Wrote};
-use crate::tests::{Did, Fixed, Row, core_of, memory_of, number_from, replay, run, with_data};
+use crate::tests::{
+    Did, Fixed, Row, compare, core_of, memory_of, number_from, replay, run, with_data,
+};
 use guest_ram::BASE;
 use std::alloc::{AllocError, Global};
 use std::process::Abort;
@@ -91,13 +93,22 @@ fn held(rt: &impl Abort, core: &Core) -> Option<u64> {
 
 #[test]
 fn the_host_takes_the_reservations_that_it_touches(rt: HostRuntime) -> Result<(), AllocError> {
-    let mut core = run(&rt, rt.alloc(), with_data(1, &RESERVED), &RESERVING)?;
+    let data = [
+        RESERVED[0],
+        RESERVED[1],
+        (0x8000_0008, 0x18a5_262f_1005_262f), // lr.w x12,(x10), and then the store
+    ];
+    let mut core = run(&rt, rt.alloc(), with_data(1, &data), &RESERVING)?;
     clear(&rt, &mut core, 0x8000_0108);
     assert_eq!(rt; held(&rt, &core), Some(0x8000_0100));
     assert_eq!(rt; number_from(core.ram(), 0x8000_0108), 0);
     assert_eq!(rt; number_from(core.ram(), 0x8000_0100), 0x1111_1111_2222_2222);
     clear(&rt, &mut core, 0x8000_0100);
     assert_eq!(rt; held(&rt, &core), None);
+    assert_eq!(rt; number_from(core.ram(), 0x8000_0100), 0);
+    // sc.w x12,x10,(x10)
+    let row = (0, M, 0x8000_000c, 0x18a5_262f, Wrote(12, 1));
+    compare(&rt, &mut core, &mut Fixed::new(0), row, 0);
     assert_eq!(rt; number_from(core.ram(), 0x8000_0100), 0);
     let mut core = run(&rt, rt.alloc(), with_data(1, &RESERVED), &RESERVING)?;
     core.clear_reservations();

@@ -356,7 +356,7 @@ static DEVICES: [Word; 14] = [
 ];
 
 /// Loads and stores under the page tables. Root entry 3 names a table outside RAM.
-static TRANSLATED: [Translated; 60] = [
+static TRANSLATED: [Translated; 65] = [
     (
         S,
         0x800,
@@ -621,6 +621,41 @@ static TRANSLATED: [Translated; 60] = [
         Raised(4, 0x4000_1001),
     ), // lw x12,0(x10)
     (M, 0x1800, 0x4000_0008, 0x01f5_3023, Raised(7, 0x4000_0008)), // sd x31,0(x10)
+    (
+        M,
+        0x2_0800,
+        0x4000_5000,
+        0x01f5_0023,
+        Stored(0x1000_0000, 1, 0),
+    ), // sb x31,0(x10)
+    (
+        M,
+        0x2_0800,
+        0x4000_5004,
+        0x0005_6603,
+        Loaded(12, 0xd5c6_b7a8, 0xd5c6_b7a8),
+    ), // lwu x12,0(x10)
+    (
+        M,
+        0x2_0800,
+        0x4000_5004,
+        0x01f5_262f,
+        Raised(7, 0x4000_5004),
+    ), // amoadd.w x12,x31,(x10)
+    (
+        M,
+        0x2_0800,
+        0x1000_0000,
+        0x01f5_0023,
+        Raised(15, 0x1000_0000),
+    ), // sb x31,0(x10)
+    (
+        M,
+        0x1800,
+        0x1000_0000,
+        0x01f5_0023,
+        Stored(0x1000_0000, 1, 0),
+    ), // sb x31,0(x10)
 ];
 
 /// The second parcel is not mapped; then a page of user mode; then pages that may be executed alone and

@@ -19,7 +19,7 @@ pub enum Key {
     Slice,
     /// `program`: the name of the program's file.
     Program,
-    /// `taken`: how many bytes of the input were read.
+    /// `taken`: how many bytes of the input the console's queue has taken.
     Taken,
     /// `tohost`: the address of the host window, or 0 for none.
     Tohost,

@@ -37,7 +37,7 @@ pub struct Meta {
     pub shape: Shape,
     /// The length of the boot ROM in bytes.
     pub rom: u64,
-    /// How many bytes of the input were read.
+    /// How many bytes of the input the console's queue has taken.
     pub taken: u64,
     /// The version of the text.
     pub version: u64,
