@@ -2,6 +2,7 @@
 //! steps. The root table lies at 80001000, the table below it at 80002000, the last at 80003000.
 use super::*;
 use guest_ram::{GuestRam, PageTable};
+use std::alloc::{AllocError, Global};
 use std::process::Abort;
 use std::test::Fail;
 
@@ -76,74 +77,149 @@ fn an_entry_that_was_stored_counts_at_the_next_walk(rt: HostRuntime) -> Result<(
     Ok(())
 }
 
+/// An aligned leaf in the root, the middle and the last table: its place, where it maps `ADDRESS`, and
+/// how many entries are read.
+static LEVELS: [(u64, u64, u8); 3] = [
+    (ROOT, 0x8040_3234, 1),
+    (MIDDLE, 0x8000_3234, 2),
+    (LAST, 0x8000_0234, 3),
+];
+
+/// The low bits of a leaf, and whether it permits the access of a kind in a mode, with SUM and MXR.
+static LEAVES: [(u64, Mode, bool, bool, Kind, bool); 31] = [
+    // G and the bits that are software's
+    (0x363, Mode::S, false, false, Kind::Load, true),
+    // R of a load, and MXR
+    (0x43, Mode::S, false, false, Kind::Load, true),
+    (0x49, Mode::S, false, false, Kind::Load, false),
+    (0x49, Mode::S, false, true, Kind::Load, true),
+    (0x59, Mode::U, false, false, Kind::Load, false),
+    (0x59, Mode::U, false, true, Kind::Load, true),
+    // W and D of a store
+    (0xc7, Mode::S, false, false, Kind::Store, true),
+    (0xc3, Mode::S, false, false, Kind::Store, false),
+    (0x47, Mode::S, false, false, Kind::Store, false),
+    (0x47, Mode::S, false, false, Kind::Load, true),
+    (0x4f, Mode::S, false, false, Kind::Fetch, true),
+    (0xc9, Mode::S, false, true, Kind::Store, false),
+    (0xd3, Mode::U, false, false, Kind::Store, false),
+    (0x57, Mode::U, false, false, Kind::Store, false),
+    // X of a fetch
+    (0x49, Mode::S, false, false, Kind::Fetch, true),
+    (0xc7, Mode::S, false, true, Kind::Fetch, false),
+    (0xd7, Mode::U, false, true, Kind::Fetch, false),
+    // U in user mode
+    (0xcf, Mode::U, true, true, Kind::Load, false),
+    (0xcf, Mode::U, true, true, Kind::Store, false),
+    (0xcf, Mode::U, true, true, Kind::Fetch, false),
+    // U in supervisor mode, and SUM
+    (0xdf, Mode::S, false, true, Kind::Load, false),
+    (0xdf, Mode::S, false, false, Kind::Store, false),
+    (0xdf, Mode::S, false, false, Kind::Fetch, false),
+    (0xdf, Mode::S, true, false, Kind::Load, true),
+    (0xdf, Mode::S, true, false, Kind::Store, true),
+    (0xdf, Mode::S, true, true, Kind::Fetch, false),
+    (0x59, Mode::S, true, false, Kind::Load, false),
+    (0x59, Mode::S, true, true, Kind::Load, true),
+    (0x59, Mode::S, true, true, Kind::Store, false),
+    (0x57, Mode::S, true, false, Kind::Store, false),
+    (0xd3, Mode::S, true, false, Kind::Store, false),
+];
+
+/// What makes a leaf with all other bits bad for every access: V, R of a writable leaf, A, and the
+/// lowest and the highest reserved bit.
+static CHANGES: [u64; 5] = [1, 2, 0x40, 1 << 54, 1 << 63];
+
+/// What makes a pointer bad: A, D, U, W, and the lowest and the highest reserved bit.
+static POINTER_CHANGES: [u64; 6] = [0x40, 0x80, 0x10, 4, 1 << 54, 1 << 63];
+
+fn tables(rt: &impl Abort, alloc: Global) -> Result<GuestRam, AllocError> {
+    let mut ram = GuestRam::new(alloc, 0x1_0000)?;
+    put(rt, &mut ram, ROOT, 0x2000_0801);
+    put(rt, &mut ram, MIDDLE, 0x2000_0c01);
+    Ok(ram)
+}
+
+/// Asks whether the access goes to this address, or is a page fault, with so many entries read.
+fn expect(
+    rt: &impl Abort,
+    alloc: Global,
+    ram: &GuestRam,
+    ctx: Ctx,
+    kind: Kind,
+    want: Option<u64>,
+    reads: u8,
+) -> Result<(), AllocError> {
+    let mut table = PageTable::new(ram);
+    let found = Walker::new(alloc)?.translate(&mut table, ctx, ADDRESS, kind);
+    assert_eq!(rt; found, want.ok_or(WalkFault::Page), "{kind:?}");
+    assert_eq!(rt; table.reads(), reads);
+    Ok(())
+}
+
 #[test]
-fn leaves_permit_by_their_bits_the_mode_sum_and_mxr(rt: HostRuntime) -> Result<(), Fail> {
-    let mut ram = GuestRam::new(rt.alloc(), 0x1_0000)?;
-    put(&rt, &mut ram, ROOT, 0x2000_0801);
-    put(&rt, &mut ram, MIDDLE, 0x2000_0c01);
-    for (leaf, mode, sum, mxr, kind, permitted) in [
-        // V
-        (0x20001042, Mode::S, false, false, Kind::Load, false),
-        (0x20001043, Mode::S, false, false, Kind::Load, true),
-        // W without R
-        (0x200010c5, Mode::S, false, false, Kind::Load, false),
-        (0x200010cd, Mode::S, false, false, Kind::Fetch, false),
-        (0x200010c7, Mode::S, false, false, Kind::Store, true),
-        // the reserved bits 54 and 63, and those that are software's or G
-        (0x40000020001043, Mode::S, false, false, Kind::Load, false),
-        (0x8000000020001043, Mode::S, false, false, Kind::Load, false),
-        (0x20001363, Mode::S, false, false, Kind::Load, true),
-        // A
-        (0x20001003, Mode::S, false, false, Kind::Load, false),
-        (0x20001009, Mode::S, false, false, Kind::Fetch, false),
-        (0x20001087, Mode::S, false, false, Kind::Store, false),
-        (0x20001049, Mode::S, false, false, Kind::Fetch, true),
-        // D and W of a store
-        (0x20001047, Mode::S, false, false, Kind::Store, false),
-        (0x200010c3, Mode::S, false, false, Kind::Store, false),
-        (0x20001047, Mode::S, false, false, Kind::Load, true),
-        // R of a load, and MXR
-        (0x20001049, Mode::S, false, false, Kind::Load, false),
-        (0x20001049, Mode::S, false, true, Kind::Load, true),
-        (0x200010c9, Mode::S, false, true, Kind::Store, false),
-        // X of a fetch
-        (0x200010c7, Mode::S, false, true, Kind::Fetch, false),
-        (0x200010cf, Mode::S, false, false, Kind::Fetch, true),
-        // U in user mode
-        (0x200010cf, Mode::U, true, true, Kind::Load, false),
-        (0x200010cf, Mode::U, true, true, Kind::Fetch, false),
-        (0x200010df, Mode::U, false, false, Kind::Load, true),
-        (0x200010df, Mode::U, false, false, Kind::Store, true),
-        (0x200010df, Mode::U, false, false, Kind::Fetch, true),
-        // U in supervisor mode, and SUM
-        (0x200010df, Mode::S, false, false, Kind::Load, false),
-        (0x200010df, Mode::S, false, false, Kind::Store, false),
-        (0x200010df, Mode::S, true, false, Kind::Load, true),
-        (0x200010df, Mode::S, true, false, Kind::Store, true),
-        (0x200010df, Mode::S, true, true, Kind::Fetch, false),
-        // a pointer at the last level
-        (0x20001001, Mode::S, false, false, Kind::Load, false),
-    ] {
-        put(&rt, &mut ram, LAST, leaf);
-        let mut walker = Walker::new(rt.alloc())?;
-        let mut table = PageTable::new(&ram);
-        let ctx = Ctx {
-            mode,
-            satp: SATP,
-            sum,
-            mxr,
-        };
-        let want = if permitted {
-            Ok(0x8000_4234)
-        } else {
-            Err(WalkFault::Page)
-        };
-        assert_eq!(rt;
-            walker.translate(&mut table, ctx, ADDRESS, kind),
-            want,
-            "{leaf} {kind:?}"
-        );
-        assert_eq!(rt; table.reads(), 3);
+fn leaves_permit_by_their_bits_the_mode_sum_and_mxr_at_every_level(
+    rt: HostRuntime,
+) -> Result<(), Fail> {
+    for (place, at, reads) in LEVELS.iter().copied() {
+        let mut ram = tables(&rt, rt.alloc())?;
+        for (leaf, mode, sum, mxr, kind, permitted) in LEAVES.iter().copied() {
+            put(&rt, &mut ram, place, 0x2000_0000 | leaf);
+            let ctx = Ctx {
+                mode,
+                satp: SATP,
+                sum,
+                mxr,
+            };
+            let want = if permitted { Some(at) } else { None };
+            expect(&rt, rt.alloc(), &ram, ctx, kind, want, reads)?;
+        }
+    }
+    Ok(())
+}
+
+#[test]
+fn bad_leaves_permit_nothing_to_any_kind_and_mode(rt: HostRuntime) -> Result<(), Fail> {
+    for (place, at, reads) in LEVELS.iter().copied() {
+        let mut ram = tables(&rt, rt.alloc())?;
+        for (mode, leaf) in [(Mode::S, 0x2000_00cf), (Mode::U, 0x2000_00df)] {
+            let ctx = Ctx {
+                mode,
+                satp: SATP,
+                sum: true,
+                mxr: true,
+            };
+            for kind in [Kind::Fetch, Kind::Load, Kind::Store] {
+                put(&rt, &mut ram, place, leaf);
+                expect(&rt, rt.alloc(), &ram, ctx, kind, Some(at), reads)?;
+                for change in CHANGES.iter().copied() {
+                    put(&rt, &mut ram, place, leaf ^ change);
+                    expect(&rt, rt.alloc(), &ram, ctx, kind, None, reads)?;
+                }
+            }
+        }
+    }
+    Ok(())
+}
+
+#[test]
+fn bad_pointers_and_pointers_at_the_last_level_lead_nowhere(rt: HostRuntime) -> Result<(), Fail> {
+    for (place, _at, reads) in LEVELS.iter().copied() {
+        for change in POINTER_CHANGES.iter().copied() {
+            let mut ram = tables(&rt, rt.alloc())?;
+            put(&rt, &mut ram, LAST, 0x2000_0001);
+            expect(&rt, rt.alloc(), &ram, supervisor(SATP), Kind::Load, None, 3)?;
+            put(&rt, &mut ram, place, 0x2000_0001 | change);
+            expect(
+                &rt,
+                rt.alloc(),
+                &ram,
+                supervisor(SATP),
+                Kind::Load,
+                None,
+                reads,
+            )?;
+        }
     }
     Ok(())
 }
@@ -174,41 +250,6 @@ fn walks_follow_pointers_to_pages_and_superpages(rt: HostRuntime) -> Result<(), 
             ],
             0x40403234,
             Ok(0x80000080004234),
-        ),
-        // a pointer with A, D, U or a reserved bit
-        (
-            SATP,
-            [(ROOT, 0x20000841), (MIDDLE, 0x20000c01), (LAST, 0x20001043)],
-            0x40403234,
-            Err(WalkFault::Page),
-        ),
-        (
-            SATP,
-            [(ROOT, 0x20000881), (MIDDLE, 0x20000c01), (LAST, 0x20001043)],
-            0x40403234,
-            Err(WalkFault::Page),
-        ),
-        (
-            SATP,
-            [(ROOT, 0x20000811), (MIDDLE, 0x20000c01), (LAST, 0x20001043)],
-            0x40403234,
-            Err(WalkFault::Page),
-        ),
-        (
-            SATP,
-            [(ROOT, 0x20000801), (MIDDLE, 0x20000c11), (LAST, 0x20001043)],
-            0x40403234,
-            Err(WalkFault::Page),
-        ),
-        (
-            SATP,
-            [
-                (ROOT, 0x40000020000801),
-                (MIDDLE, 0x20000c01),
-                (LAST, 0x20001043),
-            ],
-            0x40403234,
-            Err(WalkFault::Page),
         ),
         // superpages of 2 MiB and 1 GiB
         (
