@@ -3,9 +3,9 @@ use Rattle.std.proofs.Common.{◌≡◌, ℕ, ◌≤◌, ◌&&◌, Bool, true, f
 use Rattle.std.specs.Option.{option_map_or}
 use Rattle.std.proofs.lemmas.Bool.{and_parts, leb-true}
 use Rattle.std.proofs.lemmas.List.{length-take}
-use Rattle.guest_ram.specs.Bytes.{part_of}
+use Rattle.guest_ram.specs.Bytes.{has_part, part_of}
 use Rattle.console.specs.State.{ConsoleRegisters, has_flag, loop_flag}
-use Rattle.console.specs.Access.{has_bytes, most_sent, sent, sent_by, sent_from}
+use Rattle.console.specs.Access.{most_sent, sent, sent_by, sent_from}
 use Rattle.console.specs.declared.registers.Register.{Register}
 use Rattle.console.specs.declared.registers.Register.TheVariants.{Data, Status, Ctrl, TxAddr, TxLen}
 
@@ -17,7 +17,7 @@ sent_short ram r n true most = short_part n _ (most refl)
 sent_short ram r n false most = omega arith
 
 from_short : (ram : List ℕ) (r : ConsoleRegisters) (n : ℕ) → length (sent_from ram r n) ≤ 256
-from_short ram r n = sent_short ram r n (nat_le n most_sent && has_bytes ram r.txaddr n) (λ may. leb-true n most_sent (and_parts _ _ may).0)
+from_short ram r n = sent_short ram r n (nat_le n most_sent && has_part ram r.txaddr n) (λ may. leb-true n most_sent (and_parts _ _ may).0)
 
 unless_loop : (loops : Bool) (xs : List ℕ) → length xs ≤ 256 → length (if loops then [] else xs) ≤ 256
 unless_loop true xs short = omega arith

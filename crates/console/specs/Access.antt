@@ -1,7 +1,7 @@
 -- What loads give and leave, and what stores leave and send.
 use Rattle.std.specs.Prelude.{◌+◌, ◌*◌, ◌%◌, ◌^◌, ℕ, Bool, ◌&&◌, nat_le, if◌then◌else◌, Option, List, [], ◌∷◌, length, drop, slice_index}
 use Rattle.std.specs.Option.{option_map, option_map_or}
-use Rattle.guest_ram.specs.Bytes.{base, part_of}
+use Rattle.guest_ram.specs.Bytes.{has_part, part_of}
 use Rattle.console.specs.State.{ConsoleRegisters, entered, has_flag, is_waiting, loop_flag}
 use Rattle.console.specs.Layout.{register_at}
 use Rattle.console.specs.declared.registers.Register.{Register}
@@ -41,15 +41,11 @@ written r v Ctrl = record r { ctrl = v % 8 }
 written r v TxAddr = record r { txaddr = v }
 written r v TxLen = r
 
--- the n bytes from the guest address `at` all lie in guest memory
-abbrev pub has_bytes : List ℕ → ℕ → ℕ → Bool
-has_bytes ram at n = nat_le base at && nat_le (at + n) (base + length ram)
-
 -- the bytes of guest memory that a send of n bytes gives: all n from txaddr on, or none where they are more than
 -- the greatest length or do not all lie in guest memory
 abbrev pub sent_from : List ℕ → ConsoleRegisters → ℕ → List ℕ
 sent_from ram r n =
-    if nat_le n most_sent && has_bytes ram r.txaddr n then part_of ram r.txaddr n else []
+    if nat_le n most_sent && has_part ram r.txaddr n then part_of ram r.txaddr n else []
 
 -- the bytes that go out where v is written to a register: the byte written to data, and as many bytes of guest
 -- memory as is written to txlen, but none under loop

@@ -5,7 +5,7 @@ ghost use Rattle.std.specs.Result.{result_ok};
 ghost use Rattle.console.specs.State.{IsFit, entered, has_flag, input_flag, is_waiting, levels_of, loop_flag, output_flag, queue_room, reset_registers};
 ghost use Rattle.console.specs.Output.{spare_of};
 ghost use Rattle.console.specs.Layout.{is_listed, size_of};
-ghost use Rattle.console.specs.Access.{after_load, after_reading, has_bytes, loaded, most_sent, sent, sent_by, sent_from, stored, value_of, written};
+ghost use Rattle.console.specs.Access.{after_load, after_reading, loaded, most_sent, sent, sent_by, sent_from, stored, value_of, written};
 ghost use Rattle.guest_ram.specs.Bytes.{part_of};
 
 use crate::control::Control;
@@ -43,13 +43,6 @@ impl Model for Console {
     ghost view = { λ c. record { queue = take c.count c.bytes; ctrl = c.ctrl.0; txaddr = c.txaddr } };
 
     ghost invariant = { λ c. (c.count ≤ 16) × All (λ b. b < 256) c.bytes × (c.ctrl.0 ≤ 7) × (c.txaddr < 2 ^ 64) };
-}
-
-/// Whether the `n` bytes from `at` all lie in guest memory.
-fn has_bytes(ram: &GuestRam, at: u64, n: u64) -> bool
-    ensures { result ≡ has_bytes ram.now at n }
-{
-    ram.has(at, n)
 }
 
 impl Console {
@@ -257,7 +250,7 @@ impl Console {
         requires { most_sent ≤ spare_of out.old }
         ensures { out.new ≡ record out.old { bytes = out.old.bytes ++ sent_from ram.now self.now n } }
     {
-        if n <= MOST_SENT && has_bytes(ram, self.txaddr, n) {
+        if n <= MOST_SENT && ram.has(self.txaddr, n) {
             out.append(ram.part(self.txaddr, n));
         }
     }

@@ -1,10 +1,19 @@
--- Laws of `with_part`: what a read finds at, below and above the bytes that were stored.
-use Rattle.std.proofs.Common.{◌≡◌, ℕ, ◌+◌, ◌%◌, ◌^◌, ◌≤◌, List, [], length, sym, ap, subst, ◌∙◌, arith, rules}
+-- The test of a part, and laws of `with_part`: what a read finds at, below and above the bytes that were stored.
+use Rattle.std.proofs.Common.{◌≡◌, ℕ, ◌+◌, ◌%◌, ◌^◌, ◌≤◌, List, [], length, IsTrue, sym, ap, subst, ◌∙◌, arith, rules}
+use Rattle.std.specs.Prelude.{◌↔◌}
+use Rattle.std.proofs.lemmas.Bool.{and_from, and_parts, le-leb, leb-true}
 use Rattle.std.proofs.lemmas.List.{append-nil, places, same_lists}
 use Rattle.std.proofs.Math.Nat.{div-one}
 use Rattle.byteorder.specs.Endian.{little_bytes, little_number}
 use Rattle.byteorder.specs.Numbers.{length-bytes_low_first, little_from-bytes}
-use Rattle.guest_ram.specs.Bytes.{HasPart, base, number_at, part_of, with_part}
+use Rattle.guest_ram.specs.Bytes.{HasPart, base, has_part, number_at, part_of, with_part}
+
+-- the test answers as `HasPart` says
+pub has_part_is : (ram : List ℕ) (at n : ℕ) → IsTrue (has_part ram at n) ↔ HasPart ram at n
+has_part_is ram at n = (
+  (λ holds. let parts = and_parts _ _ holds in record { low = leb-true base at parts.0; high = leb-true (at + n) (base + length ram) parts.1 }),
+  (λ part. and_from _ _ (le-leb base at part.low) (le-leb (at + n) (base + length ram) part.high)),
+)
 
 -- a store keeps the length
 pub length-with_part : (ram : List ℕ) (at : ℕ) (bytes : List ℕ) → length (with_part ram at bytes) ≡ length ram

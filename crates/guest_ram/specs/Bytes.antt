@@ -1,6 +1,6 @@
 -- Guest memory as a list of bytes, and the words that every contract on it uses. An address is a
 -- guest (physical) address: the first byte of the list has the address `base`.
-use Rattle.std.specs.Prelude.{◌≡◌, ◌+◌, ◌-◌, ◌%◌, ◌≤◌, ◌<◌, ◌⊎◌, ◌++◌, ℕ, List, length, take, drop}
+use Rattle.std.specs.Prelude.{◌≡◌, ◌+◌, ◌-◌, ◌%◌, ◌≤◌, ◌<◌, ◌⊎◌, ◌++◌, ◌&&◌, ℕ, Bool, nat_le, List, length, take, drop}
 use Rattle.byteorder.specs.Endian.{little_number}
 
 -- the guest address of the first byte
@@ -21,6 +21,10 @@ pub record HasPart (ram : List ℕ) (at n : ℕ) : Type 0 where
   pub low : base ≤ at
   pub high : at + n ≤ base + length ram
 
+-- the same as a test
+abbrev pub has_part : List ℕ → ℕ → ℕ → Bool
+has_part ram at n = nat_le base at && nat_le (at + n) (base + length ram)
+
 -- the n bytes from the address `at`
 abbrev pub part_of : List ℕ → ℕ → ℕ → List ℕ
 part_of ram at n = take n (drop (at - base) ram)
@@ -31,7 +35,8 @@ abbrev pub with_part : List ℕ → ℕ → List ℕ → List ℕ
 with_part ram at bytes =
     take (length ram) (take (at - base) ram ++ (bytes ++ drop (length bytes) (drop (at - base) ram)))
 
--- the number in the `size` bytes from the address `at`, the lowest byte first (Unprivileged ISA, 2.6)
+-- the number in the `size` bytes from the address `at`, the lowest byte first
+-- (Unprivileged ISA, "Load and Store Instructions")
 abbrev pub number_at : List ℕ → ℕ → ℕ → ℕ
 number_at ram at size = little_number size (part_of ram at size)
 

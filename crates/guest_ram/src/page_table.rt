@@ -40,7 +40,8 @@ impl<'a> PageTable<'a> {
 
     /// Reads the entry of 8 bytes at `at`, which counts also where there is none.
     ///
-    /// None exactly where these bytes are not all in the region (Privileged Architecture, 4.3.2).
+    /// None exactly where these bytes are not all in the region (Privileged ISA, "Virtual Address
+    /// Translation Process").
     pub fn entry(&mut self, at: u64) -> Option<u64>
         requires aligned { IsAligned at 8 }
         requires room { self.old.reads < 255 }

@@ -4,7 +4,7 @@ ghost use Rattle.std.specs.Prelude.{◌≡◌, ◌+◌, ◌<◌, ◌≤◌, ◌^
 ghost use Rattle.std.specs.Vec.{vec_ptr};
 ghost use Rattle.std.specs.Borrow.{Array, Lends, sem, u8 as byte};
 ghost use Rattle.byteorder.specs.Endian.{little_bytes};
-ghost use Rattle.guest_ram.specs.Bytes.{HasPart, IsAligned, IsBounded, IsSize, most_bytes, number_at, part_of, with_part};
+ghost use Rattle.guest_ram.specs.Bytes.{HasPart, IsAligned, IsBounded, IsSize, has_part, most_bytes, number_at, part_of, with_part};
 ghost use Rattle.guest_ram.specs.contracts.ram.GuestRam.{the_row};
 
 use crate::block::{Receipt, give_back, take};
@@ -91,7 +91,8 @@ impl GuestRam {
     /// Whether the `n` bytes from `at` all lie in the region. For `n` 0: whether `at` lies in the
     /// region or one past its end.
     pub fn has(&self, at: u64, n: u64) -> bool
-        ensures { IsTrue result ↔ HasPart self.now at n }
+        ensures inside { IsTrue result ↔ HasPart self.now at n }
+        ensures test { result ≡ has_part self.now at n }
     {
         let len = self.len();
         at >= BASE && at - BASE <= len && n <= len - (at - BASE)

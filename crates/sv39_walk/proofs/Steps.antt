@@ -1,8 +1,9 @@
 -- One step of the plain walk, by what stands at the entry.
-use Rattle.std.proofs.Common.{◌≡◌, ℕ, suc, ◌+◌, ◌-◌, ◌<◌, List, length, ap, sym, ◌∙◌, subst, arith, Bool, true, false, not, ◌&&◌, ◌||◌}
+use Rattle.std.proofs.Common.{◌≡◌, ℕ, suc, ◌+◌, ◌-◌, ◌<◌, List, ap, sym, ◌∙◌, subst, arith, Bool, true, false, not, ◌&&◌, ◌||◌}
 use Rattle.std.specs.Prelude.{Err, refl}
-use Rattle.std.proofs.lemmas.Bool.{and_parts, and_from, le-leb, leb-true}
-use Rattle.guest_ram.specs.Bytes.{HasPart, base}
+use Rattle.std.proofs.lemmas.Bool.{and_parts, false_from_ne_true}
+use Rattle.guest_ram.specs.Bytes.{HasPart}
+use Rattle.guest_ram.proofs.PartLemmas.{has_part_is}
 use Rattle.rv_alu.specs.declared.Mode.{Mode}
 use Rattle.sv39_walk.specs.declared.Kind.{Kind}
 use Rattle.sv39_walk.specs.declared.WalkFault.{WalkFault}
@@ -12,20 +13,8 @@ use Rattle.sv39_walk.specs.Walk.{entry_address, entry_at}
 
 -- ---- tests
 
-pub not_true : (b : Bool) → (b ≡ true → ⊥) → b ≡ false
-not_true true never = absurd (never refl)
-not_true false never = refl
-
-pub is_inside : (ram : List ℕ) (at : ℕ) → has_entry ram at ≡ true → HasPart ram at 8
-is_inside ram at holds =
-    let parts = and_parts _ _ holds in
-    record { low = leb-true base at parts.0; high = leb-true (at + 8) (base + length ram) parts.1 }
-
-pub inside_has : (ram : List ℕ) (at : ℕ) → HasPart ram at 8 → has_entry ram at ≡ true
-inside_has ram at part = and_from _ _ (le-leb base at part.low) (le-leb (at + 8) (base + length ram) part.high)
-
 pub outside_has : (ram : List ℕ) (at : ℕ) → (HasPart ram at 8 → ⊥) → has_entry ram at ≡ false
-outside_has ram at out = not_true (has_entry ram at) (λ holds. out (is_inside ram at holds))
+outside_has ram at out = false_from_ne_true (has_entry ram at) (λ holds. out ((has_part_is ram at 8).0 holds))
 
 -- an entry with R or X is no pointer, whatever its other fields
 exclusive : (formed r w x a d u : Bool) → (formed && (r || x)) ≡ true → (formed && not r && not w && not x && not a && not d && not u) ≡ false
@@ -48,7 +37,7 @@ permits_leads_nowhere mode sum mxr kind level entry holds = leaf_leads_nowhere e
 -- a pointer permits nothing
 pub pointer_permits_nothing : (mode : Mode) (sum mxr : Bool) (kind : Kind) (level entry : ℕ) → is_pointer entry ≡ true → permits mode sum mxr kind level entry ≡ false
 pointer_permits_nothing mode sum mxr kind level entry pointer =
-    not_true _ (λ holds. let never = permits_leads_nowhere mode sum mxr kind level entry holds in cc)
+    false_from_ne_true _ (λ holds. let never = permits_leads_nowhere mode sum mxr kind level entry holds in cc)
 
 -- ---- the step
 
@@ -75,7 +64,7 @@ level_outside ram mode sum mxr kind va level table at above at_is out =
 pub level_end : (ram : List ℕ) (mode : Mode) (sum mxr : Bool) (kind : Kind) (va level table at word : ℕ) → 0 < level → at ≡ entry_address va (level - 1) table → HasPart ram at 8 → word ≡ entry_at ram at → is_pointer word ≡ false → walked ram mode sum mxr kind va level table ≡ arrived mode sum mxr kind va (level - 1) word
 level_end ram mode sum mxr kind va level table at word above at_is part word_is ends =
     let lower : level ≡ suc (level - 1) = omega arith in
-    let inside : has_entry ram (entry_address va (level - 1) table) ≡ true = subst (λ (a : ℕ). has_entry ram a ≡ true) at_is (inside_has ram at part) in
+    let inside : has_entry ram (entry_address va (level - 1) table) ≡ true = subst (λ (a : ℕ). has_entry ram a ≡ true) at_is ((has_part_is ram at 8).1 part) in
     let word_there : word ≡ entry_at ram (entry_address va (level - 1) table) = word_is ∙ ap (entry_at ram) at_is in
     ap (λ (l : ℕ). walked ram mode sum mxr kind va l table) lower
     ∙ walked_end ram mode sum mxr kind va (level - 1) table inside (subst (λ (w : ℕ). is_pointer w ≡ false) word_there ends)
@@ -84,7 +73,7 @@ level_end ram mode sum mxr kind va level table at word above at_is part word_is 
 pub level_down : (ram : List ℕ) (mode : Mode) (sum mxr : Bool) (kind : Kind) (va level table at word : ℕ) → 0 < level → at ≡ entry_address va (level - 1) table → HasPart ram at 8 → word ≡ entry_at ram at → is_pointer word ≡ true → walked ram mode sum mxr kind va level table ≡ walked ram mode sum mxr kind va (level - 1) (page_of word)
 level_down ram mode sum mxr kind va level table at word above at_is part word_is pointer =
     let lower : level ≡ suc (level - 1) = omega arith in
-    let inside : has_entry ram (entry_address va (level - 1) table) ≡ true = subst (λ (a : ℕ). has_entry ram a ≡ true) at_is (inside_has ram at part) in
+    let inside : has_entry ram (entry_address va (level - 1) table) ≡ true = subst (λ (a : ℕ). has_entry ram a ≡ true) at_is ((has_part_is ram at 8).1 part) in
     let word_there : word ≡ entry_at ram (entry_address va (level - 1) table) = word_is ∙ ap (entry_at ram) at_is in
     ap (λ (l : ℕ). walked ram mode sum mxr kind va l table) lower
     ∙ walked_down ram mode sum mxr kind va (level - 1) table inside (subst (λ (w : ℕ). is_pointer w ≡ true) word_there pointer)

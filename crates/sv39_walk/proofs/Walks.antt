@@ -2,13 +2,14 @@
 use Rattle.std.proofs.Common.{◌≡◌, ℕ, zero, suc, ◌+◌, ◌-◌, ◌<◌, List, [], ◌∷◌, length, ap, sym, ◌∙◌, subst, arith, Bool, true, false}
 use Rattle.std.specs.Prelude.{Result, Ok, Err, refl}
 use Rattle.guest_ram.specs.Bytes.{HasPart}
+use Rattle.guest_ram.proofs.PartLemmas.{has_part_is}
 use Rattle.rv_alu.specs.declared.Mode.{Mode}
 use Rattle.sv39_walk.specs.declared.Kind.{Kind}
 use Rattle.sv39_walk.specs.declared.WalkFault.{WalkFault}
 use Rattle.sv39_walk.specs.Entry.{address_in, is_pointer, page_of, permits}
 use Rattle.sv39_walk.specs.Plain.{has_entry, walked}
 use Rattle.sv39_walk.specs.Walk.{Arrives, IsWay, LeadsOn, Stops, entry_address, entry_at, last_of}
-use Rattle.sv39_walk.proofs.Steps.{inside_has, is_inside, outside_has, permits_leads_nowhere, pointer_permits_nothing, walked_down, walked_end, walked_outside}
+use Rattle.sv39_walk.proofs.Steps.{outside_has, permits_leads_nowhere, pointer_permits_nothing, walked_down, walked_end, walked_outside}
 
 -- the level of the last entry on a way from a table at this level
 abbrev pub end_level : ℕ → List ℕ → ℕ
@@ -28,7 +29,7 @@ followed ram mode sum mxr kind va Ends answer here level table (at ∷ next ∷ 
     let same : end_level level (at ∷ next ∷ rest) ≡ end_level (level - 1) (next ∷ rest) = omega arith in
     let rest_end : Ends (end_level (level - 1) (next ∷ rest)) (last_of (next ∷ rest)) = subst (λ (l : ℕ). Ends l (last_of (next ∷ rest))) same end in
     let rest_walked = followed ram mode sum mxr kind va Ends answer here (level - 1) (page_of (entry_at ram at)) (next ∷ rest) way.2 rest_end in
-    let inside : has_entry ram (entry_address va level table) ≡ true = subst (λ (a : ℕ). has_entry ram a ≡ true) way.0 (inside_has ram at way.1.inside) in
+    let inside : has_entry ram (entry_address va level table) ≡ true = subst (λ (a : ℕ). has_entry ram a ≡ true) way.0 ((has_part_is ram at 8).1 way.1.inside) in
     let pointer : is_pointer (entry_at ram (entry_address va level table)) ≡ true = subst (λ (a : ℕ). is_pointer (entry_at ram a) ≡ true) way.0 way.1.pointer in
     let lower : level ≡ suc (level - 1) = omega arith in
     walked_down ram mode sum mxr kind va level table inside pointer
@@ -39,16 +40,16 @@ followed ram mode sum mxr kind va Ends answer here level table (at ∷ next ∷ 
 arrives_here : (ram : List ℕ) (mode : Mode) (sum mxr : Bool) (kind : Kind) (va pa level table : ℕ) → Arrives ram mode sum mxr kind va pa level (entry_address va level table) → walked ram mode sum mxr kind va (suc level) table ≡ Ok pa
 arrives_here ram mode sum mxr kind va pa level table end =
     let leaf = permits_leads_nowhere mode sum mxr kind level (entry_at ram (entry_address va level table)) end.permitted in
-    walked_end ram mode sum mxr kind va level table (inside_has ram _ end.inside) leaf
+    walked_end ram mode sum mxr kind va level table ((has_part_is ram _ 8).1 end.inside) leaf
     ∙ rw end.permitted (ap Ok (sym end.address))
 
 -- a page fault, by whether the entry is a pointer
 stops_by : (ram : List ℕ) (mode : Mode) (sum mxr : Bool) (kind : Kind) (va level table : ℕ) → Stops ram mode sum mxr kind level (entry_address va level table) WalkFault.Page → (pointer : Bool) → is_pointer (entry_at ram (entry_address va level table)) ≡ pointer → walked ram mode sum mxr kind va (suc level) table ≡ Err WalkFault.Page
 unfolding walked
 stops_by ram mode sum mxr kind va level table end false is =
-    walked_end ram mode sum mxr kind va level table (inside_has ram _ end.0) is ∙ rw end.2
+    walked_end ram mode sum mxr kind va level table ((has_part_is ram _ 8).1 end.0) is ∙ rw end.2
 stops_by ram mode sum mxr kind va zero table end true is =
-    walked_down ram mode sum mxr kind va zero table (inside_has ram _ end.0) is
+    walked_down ram mode sum mxr kind va zero table ((has_part_is ram _ 8).1 end.0) is
 stops_by ram mode sum mxr kind va (suc level) table end true is =
     absurd (end.1 (record { inside = end.0; pointer = is; above = omega arith }))
 
@@ -115,16 +116,16 @@ inside_found ram mode sum mxr kind va zero table part true is lower =
 inside_found ram mode sum mxr kind va (suc level) table part true is lower =
     let at = entry_address va (suc level) table in
     let leads : LeadsOn ram (suc level) at = record { inside = part; pointer = is; above = omega arith } in
-    let down = walked_down ram mode sum mxr kind va (suc level) table (inside_has ram at part) is in
+    let down = walked_down ram mode sum mxr kind va (suc level) table ((has_part_is ram at 8).1 part) is in
     let below = further ram mode sum mxr kind va level table (walked ram mode sum mxr kind va (suc level) (page_of (entry_at ram at))) leads (lower level (page_of (entry_at ram at)) refl) in
     subst (HasWay ram mode sum mxr kind va (suc level) table) (sym down) below
 
 -- by whether its entry lies in memory
 entry_found : (ram : List ℕ) (mode : Mode) (sum mxr : Bool) (kind : Kind) (va level table : ℕ) → (inside : Bool) → has_entry ram (entry_address va level table) ≡ inside → ((below page : ℕ) → level ≡ suc below → HasWay ram mode sum mxr kind va below page (walked ram mode sum mxr kind va (suc below) page)) → HasWay ram mode sum mxr kind va level table (walked ram mode sum mxr kind va (suc level) table)
 entry_found ram mode sum mxr kind va level table true is lower =
-    inside_found ram mode sum mxr kind va level table (is_inside ram (entry_address va level table) is) (is_pointer (entry_at ram (entry_address va level table))) refl lower
+    inside_found ram mode sum mxr kind va level table ((has_part_is ram (entry_address va level table) 8).0 is) (is_pointer (entry_at ram (entry_address va level table))) refl lower
 entry_found ram mode sum mxr kind va level table false is lower =
-    let out : HasPart ram (entry_address va level table) 8 → ⊥ = λ part. let inside = inside_has ram (entry_address va level table) part in cc in
+    let out : HasPart ram (entry_address va level table) 8 → ⊥ = λ part. let inside = (has_part_is ram (entry_address va level table) 8).1 part in cc in
     at_once ram mode sum mxr kind va level table (Err WalkFault.Access) out (walked_outside ram mode sum mxr kind va level table is)
 
 -- each walk has a way that ends as it answers

@@ -1,7 +1,7 @@
 -- The same translation as a plain reckoning, for definitions that compute it.
-use Rattle.std.specs.Prelude.{◌+◌, ℕ, zero, suc, Bool, ◌&&◌, List, length, nat_le, Result, Ok, Err, if◌then◌else◌}
+use Rattle.std.specs.Prelude.{ℕ, zero, suc, Bool, List, Result, Ok, Err, if◌then◌else◌}
 use Rattle.rv_alu.specs.declared.Mode.{Mode}
-use Rattle.guest_ram.specs.Bytes.{base}
+use Rattle.guest_ram.specs.Bytes.{has_part}
 use Rattle.sv39_walk.specs.declared.Kind.{Kind}
 use Rattle.sv39_walk.specs.declared.WalkFault.{WalkFault}
 use Rattle.sv39_walk.specs.Entry.{address_in, is_pointer, page_of, permits}
@@ -9,7 +9,7 @@ use Rattle.sv39_walk.specs.Walk.{entry_address, entry_at, is_canonical, is_untra
 
 -- whether the entry at an address lies in memory
 abbrev pub has_entry : List ℕ → ℕ → Bool
-has_entry ram at = nat_le base at && nat_le (at + 8) (base + length ram)
+has_entry ram at = has_part ram at 8
 
 -- what the walk gives where it ends at this entry
 abbrev pub arrived : Mode → Bool → Bool → Kind → ℕ → ℕ → ℕ → Result ℕ WalkFault
