@@ -11,7 +11,7 @@ pub and_twice : (v m : ℕ) → bit_and (bit_and v m) m ≡ bit_and v m
 and_twice v m = and_assoc m v m ∙ ap (bit_and v) (and_self m)
 
 -- what a mask n keeps of a word under mask m with the bits of c added, which n leaves out
-masked : (v m c n k : ℕ) → bit_and c n ≡ 0 → bit_and m n ≡ k → bit_and (bit_or (bit_and v m) c) n ≡ bit_and v k
+pub masked : (v m c n k : ℕ) → bit_and c n ≡ 0 → bit_and m n ≡ k → bit_and (bit_or (bit_and v m) c) n ≡ bit_and v k
 masked v m c n k apart both = and_or_apart n (bit_and v m) c apart ∙ and_assoc n v m ∙ ap (bit_and v) both
 
 -- where MPP was reserved it is 0 now, which is kept

@@ -16,3 +16,4 @@ mod view;
 
 pub use file::{CsrFile, Illegal};
 pub use registers::{DebugRegs, Registers};
+pub use view::merge;

@@ -64,6 +64,7 @@ pub const MENVCFG: u16 = 0x30a;
 
 /// Counters that are stopped: none ever is.
 pub const MCOUNTINHIBIT: u16 = 0x320;
+
 /// The first event selector, `mhpmevent3`; the last is `mhpmevent31`.
 pub const MHPMEVENT_FIRST: u16 = 0x323;
 
@@ -84,11 +85,13 @@ pub const MTVAL: u16 = 0x343;
 
 /// Machine interrupts pending.
 pub const MIP: u16 = 0x344;
+
 /// The first `pmpcfg`. On RV64 those with an odd number do not exist.
 pub const PMPCFG_FIRST: u16 = 0x3a0;
 
 /// The last `pmpcfg`.
 pub const PMPCFG_LAST: u16 = 0x3ae;
+
 /// The first `pmpaddr`.
 pub const PMPADDR_FIRST: u16 = 0x3b0;
 
@@ -116,6 +119,7 @@ pub const MCYCLE: u16 = 0xb00;
 
 /// Instructions retired.
 pub const MINSTRET: u16 = 0xb02;
+
 /// The last machine counter, `mhpmcounter31`.
 pub const MHPMCOUNTER_LAST: u16 = 0xb1f;
 
@@ -127,6 +131,7 @@ pub const TIME: u16 = 0xc01;
 
 /// The counter of retired instructions, a view of `minstret`.
 pub const INSTRET: u16 = 0xc02;
+
 /// The last counter that is readable below machine mode, `hpmcounter31`.
 pub const HPMCOUNTER_LAST: u16 = 0xc1f;
 

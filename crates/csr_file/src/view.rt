@@ -34,7 +34,7 @@ pub(crate) fn bits_given(num: u16) -> u64
 }
 
 /// `old` with the bits of `mask` taken from `v`.
-fn merge(mask: u64, old: u64, v: u64) -> u64
+pub fn merge(mask: u64, old: u64, v: u64) -> u64
     ensures { result ≡ merged mask old v }
 {
     old & !mask | v & mask

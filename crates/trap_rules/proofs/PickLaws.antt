@@ -79,7 +79,7 @@ may_be_taken-within r mode n h =
 
 -- ---- an interrupt that is taken may be taken
 
-no_bit : (n : ℕ) → is_set 0 n ≡ false
+pub no_bit : (n : ℕ) → is_set 0 n ≡ false
 no_bit n = ap (λ x. x == 1) (bit_at-zero n)
 
 -- the own signal of an interrupt is the signal of no other

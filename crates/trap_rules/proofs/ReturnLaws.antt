@@ -12,6 +12,7 @@ use Rattle.csr_file.specs.Legal.{kept_bits, legal, legal_status}
 use Rattle.csr_file.specs.Numbers.{csr_mstatus}
 use Rattle.csr_file.specs.Write.{merged, written}
 use Rattle.csr_file.specs.declared.registers.Registers.{Registers}
+use Rattle.csr_file.proofs.LegalLaws.{masked}
 use Rattle.trap_rules.specs.declared.Cause.{Cause}
 use Rattle.trap_rules.specs.Entry.{machine_entered, supervisor_entered}
 use Rattle.trap_rules.specs.Status.{bits_if, has, machine_previous, machine_stacked, mode_of, supervisor_previous, supervisor_stacked}
@@ -30,10 +31,6 @@ unfolding supervisor_entered written with_kept kept_value legal kept_bits
 supervisor_entered-pc mode cause tval pc r fits is_even = even_stays pc fits is_even
 
 -- ---- the mode
-
--- what a mask n keeps of a word under mask m with the bits of c added, which n leaves out
-masked : (v m c n k : ℕ) → bit_and c n ≡ 0 → bit_and m n ≡ k → bit_and (bit_or (bit_and v m) c) n ≡ bit_and v k
-masked v m c n k apart both = and_or_apart n (bit_and v m) c apart ∙ and_assoc n v m ∙ ap (bit_and v) both
 
 -- a field n that a merge replaces
 merged-field : (m s w n : ℕ) → bit_and (all_bits - m) n ≡ 0 → bit_and m n ≡ n → bit_and (merged m s w) n ≡ bit_and w n

@@ -8,8 +8,9 @@ ghost use Rattle.trap_rules.specs.Interrupt.{interrupt_order, is_machine_open, i
 
 use crate::entry::is_set;
 use crate::registers::{mideleg, mie, mip, mstatus};
-use crate::status::{MSTATUS_MIE, MSTATUS_SIE, has};
+use crate::status::has;
 use csr_file::CsrFile;
+use csr_file::masks::{MSTATUS_MIE, MSTATUS_SIE};
 use rv_alu::Mode;
 
 /// Whether an interrupt bound for machine mode can be taken.

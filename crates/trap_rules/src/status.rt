@@ -2,27 +2,16 @@
 #![tactic(auto, unfolding(crate::specs::Status::machine_stacked, crate::specs::Status::supervisor_stacked, crate::specs::Status::machine_unstacked, crate::specs::Status::supervisor_unstacked))]
 
 ghost use Rattle.std.specs.Prelude.{◌≡◌};
-ghost use Rattle.csr_file.specs.Write.{merged};
 ghost use Rattle.trap_rules.specs.Status.{bits_if, has, machine_previous, machine_stacked, machine_unstacked, mode_of, supervisor_previous, supervisor_stacked, supervisor_unstacked};
 
-use csr_file::masks::MSTATUS_MPP;
+use csr_file::masks::{
+    MSTATUS_MIE, MSTATUS_MPIE, MSTATUS_MPP, MSTATUS_MPRV, MSTATUS_SIE, MSTATUS_SPIE, MSTATUS_SPP,
+};
+use csr_file::merge;
 use rv_alu::Mode;
 
-/// Interrupts are enabled in supervisor mode.
-pub(crate) const MSTATUS_SIE: u64 = 0x2;
-/// Interrupts are enabled in machine mode.
-pub(crate) const MSTATUS_MIE: u64 = 0x8;
-/// SIE before the trap.
-const MSTATUS_SPIE: u64 = 0x20;
-/// MIE before the trap.
-const MSTATUS_MPIE: u64 = 0x80;
-/// The mode before the trap into supervisor mode.
-const MSTATUS_SPP: u64 = 0x100;
-/// Loads and stores go by the mode in MPP.
-const MSTATUS_MPRV: u64 = 0x2_0000;
-
 /// Whether the word has a bit of the mask.
-pub(crate) fn has(word: u64, mask: u64) -> bool
+pub fn has(word: u64, mask: u64) -> bool
     ensures { result ≡ has word mask }
 {
     word & mask != 0
@@ -33,13 +22,6 @@ fn bits_if(test: bool, mask: u64) -> u64
     ensures { result ≡ bits_if test mask }
 {
     if test { mask } else { 0 }
-}
-
-/// `old` with the bits of `mask` taken from `v`.
-fn merge(mask: u64, old: u64, v: u64) -> u64
-    ensures { result ≡ merged mask old v }
-{
-    old & !mask | v & mask
 }
 
 /// The mode of a number in the fields MPP and prv.
@@ -53,8 +35,8 @@ pub(crate) fn mode_of(number: u64) -> Mode
     }
 }
 
-/// The mode to which `mret` returns.
-pub(crate) fn machine_previous(status: u64) -> Mode
+/// The mode in the field MPP of `mstatus`, to which `mret` returns.
+pub fn machine_previous(status: u64) -> Mode
     ensures { result ≡ machine_previous status }
 {
     mode_of(status >> 11 & 3)
