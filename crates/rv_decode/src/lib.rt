@@ -19,8 +19,8 @@ pub use word::decode;
 /// An instruction, by its name and fields. `rd`, `rs1` and `rs2` are register numbers below 32, `imm` is
 /// the immediate with its sign, `shamt` a shift amount, `csr` the number of a control and status
 /// register and `uimm` an unsigned immediate of five bits. The aq and rl bits of the atomic
-/// instructions, and all fields of the fences, are ignored (Unprivileged ISA, "RV32/64G Instruction Set
-/// Listings").
+/// instructions, and all fields of `fence` and `fence.i`, are ignored (Unprivileged ISA, "RV32/64G
+/// Instruction Set Listings").
 #[derive(Clone, Copy)]
 pub enum Insn {
     Lui { rd: u8, imm: i64 },
