@@ -2,7 +2,7 @@
 -- Instruction Set", "M", "A" and "Zicsr" extensions; Privileged ISA, "Privileged Instructions").
 use Rattle.std.specs.Prelude.{◌≡◌, ℕ, ◌+◌, ◌-◌, ◌*◌, ◌%◌, ◌^◌, ◌==◌, ◌&&◌, ◌||◌, not, ℤ, pos, ◌+ℤ◌, Bool, true, false, List, Option, Some, None, Result, Ok, Err, bit_and, bit_or, if◌then◌else◌}
 use Rattle.byteorder.specs.Endian.{little_bytes}
-use Rattle.guest_ram.specs.Bytes.{number_at, with_part}
+use Rattle.guest_ram.specs.Bytes.{has_part, number_at, with_part}
 use Rattle.rv_alu.specs.declared.Mode.{Mode}
 use Rattle.rv_alu.specs.declared.AmoOp.{AmoOp}
 use Rattle.rv_alu.specs.declared.BinOp.{BinOp}
@@ -10,7 +10,7 @@ use Rattle.rv_alu.specs.declared.MulOp.{MulOp}
 use Rattle.rv_alu.specs.declared.CondOp.{CondOp}
 use Rattle.rv_alu.specs.Arithmetic.{alu_of, amo_value_of, is_taken, modulo, mul_div_of, sign_extended}
 use Rattle.rv_decode.specs.declared.Insn.{Insn}
-use Rattle.csr_file.specs.Access.{effective_mode, level, may_access}
+use Rattle.csr_file.specs.Access.{level, may_access}
 use Rattle.csr_file.specs.Bits.{all_bits, mstatus_tsr, mstatus_tvm, mstatus_tw}
 use Rattle.csr_file.specs.View.{base, is_volatile_number, view}
 use Rattle.csr_file.specs.Write.{written}
@@ -24,7 +24,7 @@ use Rattle.hart_step.specs.declared.done.Done.{Done}
 use Rattle.hart_step.specs.declared.hart.Hart.{Hart}
 use Rattle.hart_step.specs.Answers.{Access, Given, Stores, Untouched, after_access}
 use Rattle.hart_step.specs.Harts.{is_in_debug, register, shown_register, with_register}
-use Rattle.hart_step.specs.Memory.{Exception, Loaded, MemoryState, access_cause, data_address, exception, holds_bytes, loaded, ram_address}
+use Rattle.hart_step.specs.Memory.{Exception, Loaded, MemoryState, access_cause, acting_mode, data_address, exception, loaded, ram_address}
 
 -- what an instruction leaves of the hart and of memory, what is shown of it, or the exception that it raises
 -- instead, and its device access
@@ -152,7 +152,7 @@ with_stored memory at size value = record memory { ram = with_part memory.ram at
 -- board has n harts
 abbrev pub stores_in : ℕ → ℕ → ℕ → ℕ → ℕ → ℕ → Hart → MemoryState → Effect
 stores_in n size value len va at hart memory =
-    if holds_bytes memory.ram at size
+    if has_part memory.ram at size
     then record { hart = at_pc hart (pc_after hart len); memory = with_stored memory at size value; shown = Ok (shows_store at size value); access = Untouched }
     else if is_listed n at size
     then record { hart = at_pc hart (pc_after hart len); memory = memory; shown = Ok (shows_store at size value); access = Stores at size (low_bytes size value) }
@@ -284,10 +284,6 @@ pub record LeavesCsr (hart : Hart) (shown : Result Done Exception) (e : CsrEffec
 -- ---- privileged instructions (Privileged ISA, "Environment Call and Breakpoint", "Trap-Return Instructions",
 -- "Wait for Interrupt", "Supervisor Memory-Management Fence Instruction")
 
--- the mode in which an instruction is carried out, where debug mode counts as machine mode
-abbrev pub mode_of : Hart → Mode
-mode_of hart = effective_mode hart.csrs hart.mode
-
 -- the cause of an environment call from a mode
 abbrev pub cause_of_call : Mode → ℕ
 cause_of_call Mode.U = 8
@@ -334,7 +330,7 @@ returns_debug word hart memory =
 
 -- wfi does nothing; below machine mode it is legal with TW clear
 abbrev pub may_wait : Hart → Bool
-may_wait hart = (level (mode_of hart) == 3) || not (has hart.csrs.mstatus mstatus_tw)
+may_wait hart = (level (acting_mode hart) == 3) || not (has hart.csrs.mstatus mstatus_tw)
 
 abbrev pub waits : ℕ → ℕ → Hart → MemoryState → Effect
 waits len word hart memory = if may_wait hart then passes len hart memory else illegal word hart memory
@@ -342,7 +338,7 @@ waits len word hart memory = if may_wait hart then passes len hart memory else i
 -- sfence.vma does nothing, since no translation is remembered that memory does not have; it is legal in machine
 -- mode, and in supervisor mode with TVM clear
 abbrev pub may_fence_translation : Hart → Bool
-may_fence_translation hart = is_open mstatus_tvm hart.csrs.mstatus (mode_of hart)
+may_fence_translation hart = is_open mstatus_tvm hart.csrs.mstatus (acting_mode hart)
 
 abbrev pub fences_translation : ℕ → ℕ → Hart → MemoryState → Effect
 fences_translation len word hart memory = if may_fence_translation hart then passes len hart memory else illegal word hart memory
@@ -437,7 +433,7 @@ effect given n len word (Insn.Csrrc rd rs1 csr) hart memory = with_memory (clear
 effect given n len word (Insn.Csrrwi rd uimm csr) hart memory = with_memory (writes_csr given len word rd csr uimm hart) memory
 effect given n len word (Insn.Csrrsi rd uimm csr) hart memory = with_memory (sets_csr given len word rd csr (not (uimm == 0)) uimm hart) memory
 effect given n len word (Insn.Csrrci rd uimm csr) hart memory = with_memory (clears_csr given len word rd csr (not (uimm == 0)) uimm hart) memory
-effect given n len word Insn.Ecall hart memory = raises (exception (cause_of_call (mode_of hart)) 0) hart memory
+effect given n len word Insn.Ecall hart memory = raises (exception (cause_of_call (acting_mode hart)) 0) hart memory
 effect given n len word Insn.Ebreak hart memory = raises (exception 3 hart.pc) hart memory
 effect given n len word Insn.Sret hart memory = returns_supervisor word hart memory
 effect given n len word Insn.Mret hart memory = returns_machine word hart memory

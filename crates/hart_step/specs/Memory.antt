@@ -3,7 +3,7 @@
 use Rattle.std.specs.Prelude.{ℕ, ◌+◌, ◌-◌, ◌%◌, ◌==◌, ◌&&◌, Bool, List, length, take, drop, nat_le, Option, Some, None, Result, Ok, Err, if◌then◌else◌}
 use Rattle.byteorder.specs.Endian.{little_number}
 use Rattle.rv_alu.specs.declared.Mode.{Mode}
-use Rattle.guest_ram.specs.Bytes.{base, number_at}
+use Rattle.guest_ram.specs.Bytes.{has_part, number_at}
 use Rattle.csr_file.specs.Bits.{mstatus_mprv, mstatus_mxr, mstatus_sum}
 use Rattle.csr_file.specs.Access.{effective_mode}
 use Rattle.trap_rules.specs.Status.{has, machine_previous}
@@ -19,10 +19,6 @@ use Rattle.hart_step.specs.Harts.{is_in_debug}
 pub record MemoryState : Type 0 where
   pub ram : List ℕ
   pub rom : List ℕ
-
--- whether the n bytes from an address all lie in RAM
-abbrev pub holds_bytes : List ℕ → ℕ → ℕ → Bool
-holds_bytes ram at n = nat_le base at && nat_le (at + n) (base + length ram)
 
 -- the boot ROM begins at 0x10000
 abbrev pub rom_base : ℕ
@@ -73,12 +69,13 @@ walk_exception kind va WalkFault.Access = exception (access_cause kind) va
 
 -- ---- translation
 
--- fetches are made in the mode of the hart, and loads and stores in that of MPP where MPRV is set
--- (Privileged ISA, "Memory Privilege in mstatus Register"); in debug mode both are made in machine mode
+-- the mode in which a hart fetches and carries out instructions; debug mode counts as machine mode
 -- (External Debug Support, "Debug Mode")
-abbrev pub fetch_mode : Hart → Mode
-fetch_mode hart = effective_mode hart.csrs hart.mode
+abbrev pub acting_mode : Hart → Mode
+acting_mode hart = effective_mode hart.csrs hart.mode
 
+-- the mode in which it loads and stores: that in MPP where MPRV is set, and in debug mode machine mode
+-- (Privileged ISA, "Memory Privilege in mstatus Register")
 abbrev pub data_mode : Hart → Mode
 data_mode hart =
     effective_mode hart.csrs (if has hart.csrs.mstatus mstatus_mprv then machine_previous hart.csrs.mstatus else hart.mode)
@@ -115,7 +112,7 @@ from_device given at size = record { value = given.device at size; access = Load
 -- in debug mode by the ROM; it is an access fault elsewhere. The board has n harts
 abbrev pub loaded_at : Given → ℕ → Hart → MemoryState → ℕ → ℕ → ℕ → Result Loaded Exception
 loaded_at given n hart memory size va at =
-    if holds_bytes memory.ram at size then Ok (from_memory (number_at memory.ram at size))
+    if has_part memory.ram at size then Ok (from_memory (number_at memory.ram at size))
     else if is_listed n at size then Ok (from_device given at size)
     else if is_in_debug hart && rom_holds memory.rom at size then Ok (from_memory (rom_number memory.rom at size))
     else Err (exception (access_cause Kind.Load) va)
@@ -130,7 +127,7 @@ loaded given n hart memory size va = loaded_from given n hart memory size va (da
 -- ---- the physical address of an access that RAM alone answers
 
 abbrev pub ram_address_at : Kind → List ℕ → ℕ → ℕ → ℕ → Result ℕ Exception
-ram_address_at kind ram size va at = if holds_bytes ram at size then Ok at else Err (exception (access_cause kind) va)
+ram_address_at kind ram size va at = if has_part ram at size then Ok at else Err (exception (access_cause kind) va)
 
 abbrev pub ram_address_from : Kind → List ℕ → ℕ → ℕ → Result ℕ Exception → Result ℕ Exception
 ram_address_from kind ram size va (Ok at) = ram_address_at kind ram size va at

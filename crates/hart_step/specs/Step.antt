@@ -2,7 +2,7 @@
 -- it decodes to, what the instruction does, and what the step then shows and leaves.
 use Rattle.std.specs.Prelude.{◌≡◌, ℕ, ◌+◌, ◌*◌, ◌%◌, ◌^◌, ◌<◌, ◌==◌, ◌&&◌, not, Bool, true, false, List, [], Option, Some, None, Result, Ok, Err, length, map, nat_lt, slice_set, if◌then◌else◌}
 use Rattle.std.specs.List.{list_any}
-use Rattle.guest_ram.specs.Bytes.{number_at, with_part}
+use Rattle.guest_ram.specs.Bytes.{has_part, number_at, with_part}
 use Rattle.byteorder.specs.Endian.{little_bytes}
 use Rattle.rv_decode.specs.declared.Insn.{Insn}
 use Rattle.rv_decode.specs.Compressed.{expanded}
@@ -19,7 +19,7 @@ use Rattle.hart_step.specs.declared.fetch.Fetched.{Fetched}
 use Rattle.hart_step.specs.declared.hart.Hart.{Hart}
 use Rattle.hart_step.specs.Answers.{Access, Given, Untouched, after_access}
 use Rattle.hart_step.specs.Harts.{CoreState, hart_of, is_in_debug, privilege_of}
-use Rattle.hart_step.specs.Memory.{Exception, MemoryState, access_cause, exception, fetch_mode, holds_bytes, physical, rom_holds, rom_number}
+use Rattle.hart_step.specs.Memory.{Exception, MemoryState, access_cause, acting_mode, exception, physical, rom_holds, rom_number}
 use Rattle.hart_step.specs.Effects.{Effect, effect, illegal, raises}
 
 -- ---- fetch
@@ -27,7 +27,7 @@ use Rattle.hart_step.specs.Effects.{Effect, effect, illegal, raises}
 -- the 16-bit parcel at a physical address: it is answered by RAM, and in debug mode by the ROM too
 abbrev pub parcel_in : Hart → MemoryState → ℕ → ℕ → Result ℕ Exception
 parcel_in hart memory va at =
-    if holds_bytes memory.ram at 2 then Ok (number_at memory.ram at 2)
+    if has_part memory.ram at 2 then Ok (number_at memory.ram at 2)
     else if is_in_debug hart && rom_holds memory.rom at 2 then Ok (rom_number memory.rom at 2)
     else Err (exception (access_cause Kind.Fetch) va)
 
@@ -37,7 +37,7 @@ parcel_from hart memory va (Err e) = Err e
 
 -- the parcel at an address, each translated by itself
 abbrev pub parcel : Hart → MemoryState → ℕ → Result ℕ Exception
-parcel hart memory va = parcel_from hart memory va (physical (fetch_mode hart) Kind.Fetch hart memory.ram va)
+parcel hart memory va = parcel_from hart memory va (physical (acting_mode hart) Kind.Fetch hart memory.ram va)
 
 -- a parcel that ends in 11 is the low half of a 32-bit word (Unprivileged ISA, "Expanded Instruction-Length
 -- Encoding"); any other is a 16-bit instruction

@@ -2,9 +2,9 @@
 
 ghost use Rattle.std.specs.Prelude.{◌≡◌, ◌%◌, ◌^◌, ◌<◌, ◌*◌, ◌↔◌, IfOk, IsTrue, length, ◌≤◌, []};
 ghost use Rattle.byteorder.specs.Endian.{little_bytes};
-ghost use Rattle.guest_ram.specs.Bytes.{IsSize, number_at, with_part};
+ghost use Rattle.guest_ram.specs.Bytes.{IsSize, has_part, number_at, with_part};
 ghost use Rattle.hart_step.specs.Fit.{AreBytes};
-ghost use Rattle.hart_step.specs.Memory.{data_address, holds_bytes, most_rom, physical, ram_address, rom_holds, rom_number};
+ghost use Rattle.hart_step.specs.Memory.{data_address, most_rom, physical, ram_address, rom_holds, rom_number};
 ghost use Rattle.sv39_walk.specs.Remembered.{Agrees};
 
 use crate::exception::Exception;
@@ -156,7 +156,7 @@ impl Memory {
         requires { IsSize size }
         ensures address { result ≡ ram_address kind size hart.now self.old.ram va }
         ensures aligned { IfOk result (λ at. at % size ≡ 0) }
-        ensures inside { IfOk result (λ at. IsTrue (holds_bytes self.old.ram at size)) }
+        ensures inside { IfOk result (λ at. IsTrue (has_part self.old.ram at size)) }
         ensures same { self.new ≡ self.old }
     {
         let at = self.data_address(hart, kind, size, va)?;
@@ -170,7 +170,7 @@ impl Memory {
     /// Whether the `size` bytes from `at` all lie in RAM.
     #[inline(always)]
     pub(crate) fn holds(&self, at: u64, size: u8) -> bool
-        ensures { result ≡ holds_bytes self.now.ram at size }
+        ensures { result ≡ has_part self.now.ram at size }
     {
         self.ram.has(at, u64::from(size))
     }
@@ -179,7 +179,7 @@ impl Memory {
     #[inline(always)]
     pub(crate) fn read(&self, at: u64, size: u8) -> u64
         requires size { IsSize size }
-        requires inside { IsTrue (holds_bytes self.now.ram at size) }
+        requires inside { IsTrue (has_part self.now.ram at size) }
         requires aligned { at % size ≡ 0 }
         ensures number { result ≡ number_at self.now.ram at size }
         ensures fits { result < 256 ^ size }
@@ -191,7 +191,7 @@ impl Memory {
     #[inline(always)]
     pub(crate) fn write(&mut self, at: u64, size: u8, value: u64)
         requires size { IsSize size }
-        requires inside { IsTrue (holds_bytes self.old.ram at size) }
+        requires inside { IsTrue (has_part self.old.ram at size) }
         requires aligned { at % size ≡ 0 }
         ensures stored { self.new ≡ record self.old { ram = with_part self.old.ram at (little_bytes size value) } }
         ensures length { length self.new.ram ≡ length self.old.ram }

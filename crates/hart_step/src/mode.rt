@@ -1,51 +1,23 @@
 // The modes in which a hart makes its accesses, and what they allow.
 
 ghost use Rattle.std.specs.Prelude.{◌≡◌};
-ghost use Rattle.csr_file.specs.Access.{effective_mode};
-ghost use Rattle.trap_rules.specs.Status.{has, machine_previous};
 ghost use Rattle.hart_step.specs.Effects.{is_open, may_fence_translation, may_return_machine, may_return_supervisor, may_wait};
-ghost use Rattle.hart_step.specs.Memory.{data_mode};
+ghost use Rattle.hart_step.specs.Memory.{acting_mode, data_mode};
 
 use crate::hart::Hart;
 use crate::registers::mstatus;
-use csr_file::masks::MSTATUS_TVM;
-use rv_alu::{Mode, bits};
-
-/// Bits of `mstatus` (Privileged ISA, "Machine Status Registers").
-pub(crate) const MSTATUS_MPRV: u64 = 0x2_0000;
-
-pub(crate) const MSTATUS_SUM: u64 = 0x4_0000;
-
-pub(crate) const MSTATUS_MXR: u64 = 0x8_0000;
-
-const MSTATUS_TW: u64 = 0x20_0000;
-
-const MSTATUS_TSR: u64 = 0x40_0000;
-
-/// Whether the word has a bit of the mask.
-pub(crate) fn has(word: u64, mask: u64) -> bool
-    ensures { result ≡ has word mask }
-{
-    word & mask != 0
-}
-
-/// The mode in MPP, bits 12:11.
-pub(crate) fn previous_mode(status: u64) -> Mode
-    ensures { result ≡ machine_previous status }
-{
-    match bits(status, 11, 2) {
-        3 => Mode::M,
-        1 => Mode::S,
-        _ => Mode::U,
-    }
-}
+use csr_file::masks::{MSTATUS_MPRV, MSTATUS_TSR, MSTATUS_TVM, MSTATUS_TW};
+pub(crate) use csr_file::masks::{MSTATUS_MXR, MSTATUS_SUM};
+use rv_alu::Mode;
+pub(crate) use trap_rules::has;
+use trap_rules::machine_previous;
 
 impl Hart {
     /// The mode in which the hart fetches and carries out instructions: debug mode counts as machine
     /// mode.
     #[inline(always)]
     pub(crate) fn effective_mode(&self) -> Mode
-        ensures { result ≡ effective_mode self.now.csrs self.now.mode }
+        ensures { result ≡ acting_mode self.now }
     {
         if self.is_in_debug() {
             Mode::M
@@ -65,7 +37,7 @@ impl Hart {
         }
         let status = mstatus(&self.csrs);
         if has(status, MSTATUS_MPRV) {
-            previous_mode(status)
+            machine_previous(status)
         } else {
             self.mode
         }

@@ -1,14 +1,13 @@
 -- What the board gives a step is allowed.
-use Rattle.std.proofs.Common.{◌≡◌, ◌⊎◌, inl, inr, ℕ, ◌-◌, ◌%◌, ◌^◌, ◌<◌, ◌==◌, ◌||◌, Bool, true, false, if◌then◌else◌, List, length, All, bit_and, refl, sym, ap, subst, ◌∙◌, arith}
+use Rattle.std.proofs.Common.{◌≡◌, ℕ, ◌^◌, ◌<◌, ◌==◌, ◌||◌, Bool, true, false, if◌then◌else◌, bit_and, refl, sym, subst}
 use Rattle.std.proofs.lemmas.Bool.{eqb-true}
-use Rattle.std.proofs.lemmas.Nat.{and_mask}
 use Rattle.csr_file.specs.Bits.{all_bits}
 use Rattle.csr_file.specs.Kept as registers
 use Rattle.csr_file.specs.Legal.{IsLegal, kept_bits, legal}
 use Rattle.csr_file.specs.Numbers.{csr_cycle, csr_mcycle, csr_mip, csr_time}
 use Rattle.csr_file.specs.View.{IsGiven, volatile_bits}
 use Rattle.csr_file.specs.declared.registers.Registers.{Registers}
-use Rattle.csr_file.proofs.LegalLaws.{and_twice}
+use Rattle.csr_file.proofs.LegalLaws.{and_all_bits, and_twice}
 use Rattle.board_bus.specs.Board.{BoardState, IsFit, live}
 use Rattle.board_bus.specs.Laws.{DrivesFourBits}
 use Rattle.board_bus.proofs.Loaded.{loads_fit_lem}
@@ -24,16 +23,13 @@ use Rattle.hart_turns.proofs.Permitted.{permitted}
 
 -- ---- volatile registers
 
-whole : (v : ℕ) → v < 2 ^ 64 → bit_and v all_bits ≡ v
-whole v fits = let reduced = and_mask v 64 in omega (arith, reduced, fits)
-
 counter_whole : (v : ℕ) → IsLegal csr_mcycle v → bit_and v all_bits ≡ v
 unfolding legal kept_bits
 counter_whole v is_legal = is_legal
 
 time_given : (v : ℕ) → v < 2 ^ 64 → IsGiven csr_time v
 unfolding volatile_bits
-time_given v fits = whole v fits
+time_given v fits = and_all_bits v fits
 
 cycle_given : (v : ℕ) → IsLegal csr_mcycle v → IsGiven csr_cycle v
 unfolding volatile_bits

@@ -1,16 +1,13 @@
 -- Where no interrupt is enabled, none is taken.
-use Rattle.std.proofs.Common.{◌≡◌, ℕ, ◌==◌, Bool, true, false, not, ◌&&◌, ◌||◌, cond, List, [], ◌∷◌, refl, ap, ◌∙◌}
+use Rattle.std.proofs.Common.{◌≡◌, ℕ, Bool, true, false, not, ◌&&◌, ◌||◌, cond, List, [], ◌∷◌, refl, ap, ◌∙◌}
 use Rattle.std.specs.Prelude.{Option, None, Some, find, is_some}
 use Rattle.std.specs.Option.{option_or}
 use Rattle.std.proofs.lemmas.Bool.{cond-false}
-use Rattle.std.proofs.lemmas.Nat.Bits.{bit_at-zero}
 use Rattle.rv_alu.specs.declared.Mode.{Mode}
 use Rattle.csr_file.specs.declared.registers.Registers.{Registers}
 use Rattle.trap_rules.specs.Entry.{is_set}
 use Rattle.trap_rules.specs.Interrupt.{interrupt_order, is_machine_open, is_supervisor_open, picked, traps_to_machine, traps_to_supervisor}
-
-no_bit : (n : ℕ) → is_set 0 n ≡ false
-no_bit n = ap (λ x. x == 1) (bit_at-zero n)
+use Rattle.trap_rules.proofs.PickLaws.{no_bit}
 
 blocked : (gate waits enabled side : Bool) → enabled ≡ false → (gate && ((waits && enabled) && side)) ≡ false
 blocked false waits enabled side disabled = refl
