@@ -7,7 +7,8 @@ use Rattle.std.proofs.Math.Nat.{add-mul, mul-add-div_right, mul-add-mod_self_rig
 use Rattle.hart_step.specs.declared.event.Priv.{Priv}
 use Rattle.hart_step.specs.declared.event.Priv.TheVariants.{U, S, M, D}
 use Rattle.commit_log.specs.declared.parts.Place.{Place}
-use Rattle.commit_log.specs.Spelling.{hex, hex_digit, IsSize, mode_letter, number, place, word}
+use Rattle.guest_ram.specs.Bytes.{IsSize}
+use Rattle.commit_log.specs.Spelling.{hex, hex_digit, mode_letter, number, place, word}
 use Rattle.commit_log.specs.Reading.{◌>>=◌, digits_of, first_value, hart_value, hex_value, mode_value, number_of, one, past, place_of, second_value, size_value, with_second, word_of}
 use Rattle.commit_log.proofs.ReadDigits.{sixteen_times}
 use Rattle.commit_log.proofs.Steady.{Firsts, Steady, one_steady, option_cases, past_firsts, past_steady, regrouped, regrouped_by, same_firsts, same_steady, steady}

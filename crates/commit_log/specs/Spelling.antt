@@ -1,10 +1,11 @@
 -- The line of a record: how an event is spelled, as a list of character codes, without a newline.
-use Rattle.std.specs.Prelude.{◌≡◌, ℕ, zero, suc, ◌+◌, ◌*◌, ◌/◌, ◌%◌, ◌^◌, ◌<◌, ◌≤◌, ◌⊎◌, List, [], ◌∷◌, ◌++◌, codes, Option, Some, None, nat_lt, if◌then◌else◌}
+use Rattle.std.specs.Prelude.{ℕ, zero, suc, ◌+◌, ◌*◌, ◌/◌, ◌%◌, ◌^◌, ◌<◌, List, [], ◌∷◌, ◌++◌, codes, Option, Some, None, nat_lt, if◌then◌else◌}
 use Rattle.hart_step.specs.declared.event.Event.{Event}
 use Rattle.hart_step.specs.declared.event.Event.TheVariants.{Commit, Exception, Interrupt, Host}
 use Rattle.hart_step.specs.declared.event.Priv.{Priv}
 use Rattle.hart_step.specs.declared.event.Priv.TheVariants.{U, S, M, D}
 use Rattle.hart_step.specs.declared.event.Put.{Put}
+use Rattle.hart_step.specs.Events.{IsEvent}
 
 -- a lower-case hexadecimal digit
 abbrev pub hex_digit : ℕ → ℕ
@@ -63,24 +64,10 @@ line (Host v) = 72 ∷ word 16 v
 
 -- ---- which events have a spelling
 
-abbrev pub IsRegister : Option (ℕ × ℕ) → Type 0
-IsRegister None = Unit {0}
-IsRegister (Some rd) = (1 ≤ rd.0) × (rd.0 ≤ 31)
-
-abbrev pub IsSize : ℕ → Type 0
-IsSize n = (n ≡ 1) ⊎ (n ≡ 2) ⊎ (n ≡ 4) ⊎ (n ≡ 8)
-
-abbrev pub IsStore : Option Put → Type 0
-IsStore None = Unit {0}
-IsStore (Some st) = IsSize st.size × (st.value < 256 ^ st.size)
-
--- Those have whose hart, register, cause, size and value are in range. The other fields are words of
--- the width of their type.
+-- Those of a step have: their hart, register, cause, size and value are in range. The other fields are
+-- words of the width of their type.
 abbrev pub HasSpelling : Event → Type 0
-HasSpelling (Commit hart mode pc insn rd st dv vl) = (hart < 8) × IsRegister rd × IsStore st
-HasSpelling (Exception hart mode pc cause tval) = (hart < 8) × (cause < 16)
-HasSpelling (Interrupt hart cause) = (hart < 8) × (cause < 16)
-HasSpelling (Host v) = Unit {0}
+HasSpelling = IsEvent
 
 -- The same, where the event of a clause ranges over all numbers: the words are in range too.
 abbrev pub IsWord : ℕ → Type 0
