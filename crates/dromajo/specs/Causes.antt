@@ -1,5 +1,5 @@
 -- Why a status is answered, where what the outside holds does not say it.
-use Rattle.std.specs.Prelude.{◌≡◌, ℕ, ⊤}
+use Rattle.std.specs.Prelude.{◌≡◌, ℕ}
 use Rattle.outside_io.specs.declared.OutFault.{OutFault}
 use Rattle.outside_io.specs.declared.OutFault.TheVariants as fault
 use Rattle.outside_io.specs.Causes.{Rose}
@@ -12,38 +12,73 @@ abbrev pub fault_status : OutFault → Status → Status
 fault_status fault.Failed failed = failed
 fault_status fault.NoMemory failed = NoMemory
 
--- a turn fails only where the count of the object that its status names rose, or memory lacked
-abbrev pub HasTurnCause : Status → ℕ → ℕ → ℕ → ℕ → ℕ → ℕ → Type 0
-HasTurnCause (ReadFault Input) files files' input input' out out' = Rose input input'
-HasTurnCause (WriteFault Out) files files' input input' out out' = Rose out out'
-HasTurnCause (WriteFault Files) files files' input input' out out' = Rose files files'
-HasTurnCause NoMemory files files' input input' out out' = ⊤
-HasTurnCause (ReadFault Files) files files' input input' out out' = ⊥
-HasTurnCause (ReadFault Out) files files' input input' out out' = ⊥
-HasTurnCause (ReadFault Report) files files' input input' out out' = ⊥
-HasTurnCause (WriteFault Input) files files' input input' out out' = ⊥
-HasTurnCause (WriteFault Report) files files' input input' out out' = ⊥
-HasTurnCause Done files files' input input' out out' = ⊥
-HasTurnCause Usage files files' input input' out out' = ⊥
-HasTurnCause (BadConfig f) files files' input input' out out' = ⊥
-HasTurnCause (BadElf f) files files' input input' out out' = ⊥
-HasTurnCause (GuestEnded code turn) files files' input input' out out' = ⊥
-HasTurnCause (BadHostWord word turn) files files' input input' out out' = ⊥
+-- ---- counts
 
--- why a run ends: where the outside did not fail, no count rose
-abbrev pub HasRunCause : Status → ℕ → ℕ → ℕ → ℕ → ℕ → ℕ → Type 0
-HasRunCause Done files files' input input' out out' = (files' ≡ files) × (input' ≡ input) × (out' ≡ out)
-HasRunCause (GuestEnded code turn) files files' input input' out out' = (files' ≡ files) × (input' ≡ input) × (out' ≡ out)
-HasRunCause (BadHostWord word turn) files files' input input' out out' = (files' ≡ files) × (input' ≡ input) × (out' ≡ out)
-HasRunCause (ReadFault Input) files files' input input' out out' = Rose input input'
-HasRunCause (WriteFault Out) files files' input input' out out' = Rose out out'
-HasRunCause (WriteFault Files) files files' input input' out out' = Rose files files'
-HasRunCause NoMemory files files' input input' out out' = ⊤
-HasRunCause (ReadFault Files) files files' input input' out out' = ⊥
-HasRunCause (ReadFault Out) files files' input input' out out' = ⊥
-HasRunCause (ReadFault Report) files files' input input' out out' = ⊥
-HasRunCause (WriteFault Input) files files' input input' out out' = ⊥
-HasRunCause (WriteFault Report) files files' input input' out out' = ⊥
-HasRunCause Usage files files' input input' out out' = ⊥
-HasRunCause (BadConfig f) files files' input input' out out' = ⊥
-HasRunCause (BadElf f) files files' input input' out out' = ⊥
+-- the counts of faults of the objects that a job uses; files have one for reading and one for writing
+pub record Counts : Type 0 where
+  pub files : ℕ
+  pub writes : ℕ
+  pub input : ℕ
+  pub out : ℕ
+
+abbrev pub counts : ℕ → ℕ → ℕ → ℕ → Counts
+counts files writes input out = record { files = files; writes = writes; input = input; out = out }
+
+-- no fault of the files, the input or the console was passed over
+pub record NonePassedOver (before now : Counts) : Type 0 where
+  pub files : now.files ≡ before.files
+  pub writes : now.writes ≡ before.writes
+  pub input : now.input ≡ before.input
+  pub out : now.out ≡ before.out
+
+-- one count rose, and no other: that of reading files, of writing them, of the input, or of the console
+abbrev pub ReadingFailed : Counts → Counts → Type 0
+ReadingFailed before now = Rose before.files now.files × NonePassedOver (record before { files = now.files }) now
+
+abbrev pub WritingFailed : Counts → Counts → Type 0
+WritingFailed before now = Rose before.writes now.writes × NonePassedOver (record before { writes = now.writes }) now
+
+abbrev pub InputFailed : Counts → Counts → Type 0
+InputFailed before now = Rose before.input now.input × NonePassedOver (record before { input = now.input }) now
+
+abbrev pub OutFailed : Counts → Counts → Type 0
+OutFailed before now = Rose before.out now.out × NonePassedOver (record before { out = now.out }) now
+
+-- ---- statuses
+
+-- a turn fails only where the count of the object that its status names rose and no other, or where memory lacked
+-- and none rose
+abbrev pub HasTurnCause : Status → Counts → Counts → Type 0
+HasTurnCause (ReadFault Input) before now = InputFailed before now
+HasTurnCause (WriteFault Out) before now = OutFailed before now
+HasTurnCause (WriteFault Files) before now = WritingFailed before now
+HasTurnCause NoMemory before now = NonePassedOver before now
+HasTurnCause (ReadFault Files) before now = ⊥
+HasTurnCause (ReadFault Out) before now = ⊥
+HasTurnCause (ReadFault Report) before now = ⊥
+HasTurnCause (WriteFault Input) before now = ⊥
+HasTurnCause (WriteFault Report) before now = ⊥
+HasTurnCause Done before now = ⊥
+HasTurnCause Usage before now = ⊥
+HasTurnCause (BadConfig f) before now = ⊥
+HasTurnCause (BadElf f) before now = ⊥
+HasTurnCause (GuestEnded code turn) before now = ⊥
+HasTurnCause (BadHostWord word turn) before now = ⊥
+
+-- why a run ends: as a turn that fails, or where no count rose
+abbrev pub HasRunCause : Status → Counts → Counts → Type 0
+HasRunCause Done before now = NonePassedOver before now
+HasRunCause (GuestEnded code turn) before now = NonePassedOver before now
+HasRunCause (BadHostWord word turn) before now = NonePassedOver before now
+HasRunCause (ReadFault Input) before now = InputFailed before now
+HasRunCause (WriteFault Out) before now = OutFailed before now
+HasRunCause (WriteFault Files) before now = WritingFailed before now
+HasRunCause NoMemory before now = NonePassedOver before now
+HasRunCause (ReadFault Files) before now = ⊥
+HasRunCause (ReadFault Out) before now = ⊥
+HasRunCause (ReadFault Report) before now = ⊥
+HasRunCause (WriteFault Input) before now = ⊥
+HasRunCause (WriteFault Report) before now = ⊥
+HasRunCause Usage before now = ⊥
+HasRunCause (BadConfig f) before now = ⊥
+HasRunCause (BadElf f) before now = ⊥

@@ -9,6 +9,7 @@ use Rattle.dromajo.specs.declared.program.Start.{Start}
 use Rattle.dromajo.specs.declared.status.Status.{Status}
 use Rattle.dromajo.specs.declared.status.Status.TheVariants.{Done, Usage, BadConfig, BadElf, ReadFault, WriteFault, NoMemory, GuestEnded, BadHostWord}
 use Rattle.dromajo.specs.declared.status.Which.TheVariants.{Files, Input, Out, Report}
+use Rattle.dromajo.specs.Causes.{Counts, InputFailed, NonePassedOver, OutFailed, ReadingFailed, WritingFailed}
 use Rattle.dromajo.specs.CommandLine.{Job, Run, Source}
 use Rattle.dromajo.specs.Cut.{IsRunCut, IsUnbegun}
 use Rattle.dromajo.specs.Feeding.{HoldsTrace}
@@ -170,25 +171,9 @@ JobLeaves (Some (Run source turns trace)) k status out out' held held' bytes lef
 
 -- ---- causes
 
--- the counts of faults of the four objects; files have one for reading and one for writing
-pub record Counts : Type 0 where
-  pub files : ℕ
-  pub writes : ℕ
-  pub input : ℕ
-  pub out : ℕ
-  pub report : ℕ
-
-abbrev pub counts : ℕ → ℕ → ℕ → ℕ → ℕ → Counts
-counts files writes input out report = record { files = files; writes = writes; input = input; out = out; report = report }
-
--- no fault of the files, the input or the console was passed over
-pub record NonePassedOver (before now : Counts) : Type 0 where
-  pub files : now.files ≡ before.files
-  pub writes : now.writes ≡ before.writes
-  pub input : now.input ≡ before.input
-  pub out : now.out ≡ before.out
-
--- the causes of the status of a job, before its report: where the outside did not fail, no count rose
+-- the causes of the status of a job, before its report: the first fault ends the job, so beside the count of the object
+-- that the status names none rose, and where the outside did not fail, or memory lacked, none at all; Usage only where
+-- the words name no job, and BadConfig never carries want of memory
 abbrev pub HasJobCause : Status → Option Job → Counts → Counts → Type 0
 HasJobCause Usage job before now = (job ≡ None) × NonePassedOver before now
 HasJobCause Done job before now = NonePassedOver before now
@@ -196,34 +181,31 @@ HasJobCause (BadConfig fault) job before now = (fault ≢ config_fault.NoMemory)
 HasJobCause (BadElf fault) job before now = NonePassedOver before now
 HasJobCause (GuestEnded code turn) job before now = NonePassedOver before now
 HasJobCause (BadHostWord word turn) job before now = NonePassedOver before now
-HasJobCause (ReadFault Files) job before now = Rose before.files now.files
-HasJobCause (ReadFault Input) job before now = Rose before.input now.input
+HasJobCause NoMemory job before now = NonePassedOver before now
+HasJobCause (ReadFault Files) job before now = ReadingFailed before now
+HasJobCause (ReadFault Input) job before now = InputFailed before now
 HasJobCause (ReadFault Out) job before now = ⊥
 HasJobCause (ReadFault Report) job before now = ⊥
-HasJobCause (WriteFault Files) job before now = Rose before.writes now.writes
+HasJobCause (WriteFault Files) job before now = WritingFailed before now
 HasJobCause (WriteFault Input) job before now = ⊥
-HasJobCause (WriteFault Out) job before now = Rose before.out now.out
+HasJobCause (WriteFault Out) job before now = OutFailed before now
 HasJobCause (WriteFault Report) job before now = ⊥
-HasJobCause NoMemory job before now = ⊤
 
--- why a status is answered, where what the outside holds does not say it: a fault comes only where the count of the
--- object that it names rose, Usage only where the words name no job, and BadConfig never carries want of memory
-abbrev pub HasCause : Status → Option Job → Counts → Counts → Type 0
-HasCause (ReadFault Files) job before now = Rose before.files now.files
-HasCause (ReadFault Input) job before now = Rose before.input now.input
-HasCause (ReadFault Out) job before now = ⊥
-HasCause (ReadFault Report) job before now = ⊥
-HasCause (WriteFault Files) job before now = Rose before.writes now.writes
-HasCause (WriteFault Input) job before now = ⊥
-HasCause (WriteFault Out) job before now = Rose before.out now.out
-HasCause (WriteFault Report) job before now = Rose before.report now.report
-HasCause Usage job before now = job ≡ None
-HasCause Done job before now = ⊤
-HasCause (BadConfig fault) job before now = fault ≢ config_fault.NoMemory
-HasCause (BadElf fault) job before now = ⊤
-HasCause NoMemory job before now = ⊤
-HasCause (GuestEnded code turn) job before now = ⊤
-HasCause (BadHostWord word turn) job before now = ⊤
+-- why a status is answered, where what the outside holds does not say it: that of the report comes only where its count
+-- rose, want of memory may come with the report, and every other status has the causes of the job
+abbrev pub HasCause : Status → Option Job → Counts → Counts → ℕ → ℕ → Type 0
+HasCause (WriteFault Report) job before now reports reports' = Rose reports reports'
+HasCause NoMemory job before now reports reports' = ⊤
+HasCause Usage job before now reports reports' = HasJobCause Usage job before now
+HasCause Done job before now reports reports' = HasJobCause Done job before now
+HasCause (BadConfig fault) job before now reports reports' = HasJobCause (BadConfig fault) job before now
+HasCause (BadElf fault) job before now reports reports' = HasJobCause (BadElf fault) job before now
+HasCause (GuestEnded code turn) job before now reports reports' = HasJobCause (GuestEnded code turn) job before now
+HasCause (BadHostWord word turn) job before now reports reports' = HasJobCause (BadHostWord word turn) job before now
+HasCause (ReadFault which) job before now reports reports' = HasJobCause (ReadFault which) job before now
+HasCause (WriteFault Files) job before now reports reports' = HasJobCause (WriteFault Files) job before now
+HasCause (WriteFault Input) job before now reports reports' = HasJobCause (WriteFault Input) job before now
+HasCause (WriteFault Out) job before now reports reports' = HasJobCause (WriteFault Out) job before now
 
 -- where the words name no job, that is said, unless memory lacks
 abbrev pub IsUsage : Status → Type 0
@@ -256,11 +238,13 @@ pub record Sides : Type 0 where
   pub input_now : Option (List ℕ)
 
 -- there is a status before the report, whose line was written, and the call leaves what the job leaves that ended
--- with it; where what the outside holds is told, and that status is settled, the line is that of the job's result
-pub record Reported (answered : Status) (job : Option Job) (sides : Sides) (old new : Option (List ℕ)) (count_before count_now : ℕ) : Type 0 where
+-- with it, whose causes it has; where what the outside holds is told, and that status is settled, the line is that of
+-- the job's result
+pub record Reported (answered : Status) (job : Option Job) (sides : Sides) (counts_before counts_now : Counts) (old new : Option (List ℕ)) (count_before count_now : ℕ) : Type 0 where
   pub before : Status
   pub turns : ℕ
   pub taken : ℕ
   pub reports : Reports answered turns taken before old new count_before count_now
+  pub cause : HasJobCause before job counts_before counts_now
   pub leaves : IfSome sides.held (λ files. IfSome sides.input (λ bytes. JobLeaves job turns before sides.out sides.out_now files sides.held_now bytes sides.input_now))
   pub line : IsSettled before → IfSome sides.held (λ files. IfSome sides.input (λ bytes. report_line before turns taken ≡ (result_of job files bytes).line))

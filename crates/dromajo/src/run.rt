@@ -2,7 +2,7 @@
 
 ghost use Rattle.std.specs.Prelude.{◌≡◌, ◌≢◌, ◌≤◌, ◌<◌, ℕ, List, IsTrue, IsFalse, Some, option_map};
 ghost use Rattle.hart_turns.specs.declared.machine.TurnEnd.TheVariants.{Goes};
-ghost use Rattle.dromajo.specs.Causes.{HasRunCause};
+ghost use Rattle.dromajo.specs.Causes.{HasRunCause, counts};
 ghost use Rattle.dromajo.specs.Cut.{IsRunCut};
 ghost use Rattle.dromajo.specs.Feeding.{AddsLines, AppendsFront};
 ghost use Rattle.dromajo.specs.Run.{end_status};
@@ -74,8 +74,8 @@ pub(crate) fn run<F: Files, I: Source, O: Sink>(
         (AddsLines (option_map text_seen trace.entry)) (O.written out.old) (O.written out.new)
         (F.held files.old) (F.held files.new) }
     ensures cause { HasRunCause result.status
-        (F.write_faults files.old) (F.write_faults files.new)
-        (I.faults input.old) (I.faults input.new) (O.faults out.old) (O.faults out.new) }
+        (counts (F.read_faults files.old) (F.write_faults files.old) (I.faults input.old) (O.faults out.old))
+        (counts (F.read_faults files.new) (F.write_faults files.new) (I.faults input.new) (O.faults out.new)) }
     ensures other_count { F.read_faults files.new ≡ F.read_faults files.old }
 {
     let mut feed = Feed::new();

@@ -4,11 +4,12 @@ ghost use Rattle.std.specs.Prelude.{◌≡◌, ◌≤◌, IfSome, List, None, On
 ghost use Rattle.outside_io.specs.Causes.{Rose};
 ghost use Rattle.outside_io.specs.Causes.{HasCause as HasCallCause};
 ghost use Rattle.outside_io.specs.Content.{Told};
+ghost use Rattle.dromajo.specs.Causes.{NonePassedOver, counts};
 ghost use Rattle.dromajo.specs.CommandLine.{job_of, texts};
 ghost use Rattle.dromajo.specs.CommandLine.{Run as RunJob};
 ghost use Rattle.dromajo.specs.Cut.{MayBeStarted};
 ghost use Rattle.dromajo.specs.Feeding.{AppendsFront, HoldsTrace};
-ghost use Rattle.dromajo.specs.TopCall.{HasCause, HasJobCause, IsBefore, IsFinished, IsJobResult, IsSettled, IsUsage, JobLeaves, Leaves, NonePassedOver, Reported, Reports, counts, failed_report, job_result, result_of};
+ghost use Rattle.dromajo.specs.TopCall.{HasCause, HasJobCause, IsBefore, IsFinished, IsJobResult, IsSettled, IsUsage, JobLeaves, Leaves, Reported, Reports, failed_report, job_result, result_of};
 ghost use Rattle.dromajo.specs.Walk.{source_seen, text_seen};
 
 use crate::program::load_start;
@@ -73,8 +74,8 @@ fn run_source<F: Files, I: Source, O: Sink>(
         result.turns result.status (O.written out.old) (O.written out.new)
         held (F.held files.new) bytes (I.left input.new)) }
     ensures cause { HasJobCause result.status (Some (RunJob (source_seen source.entry) turns (option_map text_seen trace.entry)))
-        (counts (F.read_faults files.old) (F.write_faults files.old) (I.faults input.old) (O.faults out.old) 0)
-        (counts (F.read_faults files.new) (F.write_faults files.new) (I.faults input.new) (O.faults out.new) 0) }
+        (counts (F.read_faults files.old) (F.write_faults files.old) (I.faults input.old) (O.faults out.old))
+        (counts (F.read_faults files.new) (F.write_faults files.new) (I.faults input.new) (O.faults out.new)) }
 {
     let start = match load_start(alloc, files, source) {
         Ok(start) => start,
@@ -113,8 +114,8 @@ fn perform<F: Files, I: Source, O: Sink>(
         JobLeaves (job_of (texts words.now)) result.turns result.status (O.written out.old) (O.written out.new)
         held (F.held files.new) bytes (I.left input.new)) }
     ensures cause { HasJobCause result.status (job_of (texts words.now))
-        (counts (F.read_faults files.old) (F.write_faults files.old) (I.faults input.old) (O.faults out.old) 0)
-        (counts (F.read_faults files.new) (F.write_faults files.new) (I.faults input.new) (O.faults out.new) 0) }
+        (counts (F.read_faults files.old) (F.write_faults files.old) (I.faults input.old) (O.faults out.old))
+        (counts (F.read_faults files.new) (F.write_faults files.new) (I.faults input.new) (O.faults out.new)) }
     ensures before { IsBefore result.status result.status }
     ensures nothing { job_of (texts words.now) ≡ None →
         (result.status ≡ Status.Usage) × (files.new ≡ files.old) × (input.new ≡ input.old) × (out.new ≡ out.old) }
@@ -190,25 +191,23 @@ pub fn dromajo<F: Files, I: Source, O: Sink, E: Sink>(
 
     // No fault is passed over.
     ensures none_passed_over { IsFinished result → NonePassedOver
-        (counts (F.read_faults files.old) (F.write_faults files.old) (I.faults input.old)
-        (O.faults out.old) (E.faults report.old))
-        (counts (F.read_faults files.new) (F.write_faults files.new) (I.faults input.new)
-        (O.faults out.new) (E.faults report.new)) }
+        (counts (F.read_faults files.old) (F.write_faults files.old) (I.faults input.old) (O.faults out.old))
+        (counts (F.read_faults files.new) (F.write_faults files.new) (I.faults input.new) (O.faults out.new)) }
     ensures done { result ≡ Status.Done → E.faults report.new ≡ E.faults report.old }
 
-    // Each status has its cause.
+    // Each status has its cause, and beside it no fault is passed over; of the report's failure and of
+    // want of memory `reported` says it, by the status before the report.
     ensures causes { HasCause result (job_of (texts words.now.items))
-        (counts (F.read_faults files.old) (F.write_faults files.old) (I.faults input.old)
-        (O.faults out.old) (E.faults report.old))
-        (counts (F.read_faults files.new) (F.write_faults files.new) (I.faults input.new)
-        (O.faults out.new) (E.faults report.new)) }
+        (counts (F.read_faults files.old) (F.write_faults files.old) (I.faults input.old) (O.faults out.old))
+        (counts (F.read_faults files.new) (F.write_faults files.new) (I.faults input.new) (O.faults out.new))
+        (E.faults report.old) (E.faults report.new) }
 
     // Words that name no job are said to be none, and then no object was touched but the report.
     ensures usage { job_of (texts words.now.items) ≡ None → IsUsage result
         × (files.new ≡ files.old) × (input.new ≡ input.old) × (out.new ≡ out.old) }
 
-    // The report has the line of the status before it; and where that status is a fault or want of
-    // memory, what the job leaves is that of so many whole turns, as the line says, and a part of
+    // The report has the line of the status before it, which has its causes; and where that status
+    // is a fault or want of memory, what the job leaves is that of so many whole turns, and a part of
     // the next one at the most.
     ensures reported { Reported result (job_of (texts words.now.items))
         (record {
@@ -219,6 +218,8 @@ pub fn dromajo<F: Files, I: Source, O: Sink, E: Sink>(
           input = I.left input.old;
           input_now = I.left input.new;
         })
+        (counts (F.read_faults files.old) (F.write_faults files.old) (I.faults input.old) (O.faults out.old))
+        (counts (F.read_faults files.new) (F.write_faults files.new) (I.faults input.new) (O.faults out.new))
         (E.written report.old) (E.written report.new)
         (E.faults report.old) (E.faults report.new) }
 {

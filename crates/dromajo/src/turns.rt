@@ -6,7 +6,7 @@ ghost use Rattle.outside_io.specs.declared.OutFault.TheVariants.{NoMemory};
 ghost use Rattle.outside_io.specs.Causes.{HasCause};
 ghost use Rattle.outside_io.specs.Content.{Told};
 ghost use Rattle.commit_log.specs.Spelling.{HasSpelling};
-ghost use Rattle.dromajo.specs.Causes.{HasTurnCause, fault_status};
+ghost use Rattle.dromajo.specs.Causes.{HasTurnCause, counts, fault_status};
 ghost use Rattle.dromajo.specs.Cut.{IsTurnCut, ReadNothing};
 ghost use Rattle.dromajo.specs.Feeding.{AddsLines, AppendsFront, IsFed, IsShown, IsTurned};
 ghost use Rattle.dromajo.specs.Run.{trace_lines, turn_on};
@@ -139,8 +139,8 @@ pub(crate) fn run_turn<F: Files, I: Source, O: Sink>(
     ensures took { OnOk result (feed.new.held ≡ None → IsFalse feed.new.ended →
         machine.new.machine.taken ≡ machine.old.machine.taken + 1) }
     ensures cause { IfErr result (λ status. HasTurnCause status
-        (F.write_faults files.old) (F.write_faults files.new)
-        (I.faults input.old) (I.faults input.new) (O.faults out.old) (O.faults out.new)) }
+        (counts (F.read_faults files.old) (F.write_faults files.old) (I.faults input.old) (O.faults out.old))
+        (counts (F.read_faults files.new) (F.write_faults files.new) (I.faults input.new) (O.faults out.new))) }
     ensures kept { OnOk result ((F.write_faults files.new ≡ F.write_faults files.old)
         × (I.faults input.new ≡ I.faults input.old) × (O.faults out.new ≡ O.faults out.old)) }
     ensures other_count { F.read_faults files.new ≡ F.read_faults files.old }
