@@ -68,7 +68,7 @@ by_status : (source : Source) (turns k : ℕ) (status : Status) (trace out out' 
 by_status source turns k (ReadFault Input) trace out out' held held' bytes left unsettled cut = cut
 by_status source turns k (WriteFault Out) trace out out' held held' bytes left unsettled cut = cut
 by_status source turns k (WriteFault Files) trace out out' held held' bytes left unsettled cut = inr cut
-by_status source turns k NoMemory trace out out' held held' bytes left unsettled cut = inr cut
+by_status source turns k NoMemory trace out out' held held' bytes left unsettled cut = inr (inr cut)
 by_status source turns k (ReadFault Files) trace out out' held held' bytes left unsettled cut = absurd cut.cut.cut
 by_status source turns k (ReadFault Out) trace out out' held held' bytes left unsettled cut = absurd cut.cut.cut
 by_status source turns k (ReadFault Report) trace out out' held held' bytes left unsettled cut = absurd cut.cut.cut

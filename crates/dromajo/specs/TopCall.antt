@@ -139,6 +139,12 @@ pub record IsJobResult (result : JobResult) (status : Status) (turns taken : ℕ
 
 -- ---- what a fault leaves
 
+-- the program was accepted, and its trace was being started
+pub record IsUnstarted (source : Source) (trace : Option (List ℕ)) (k : ℕ) (out_before out_now : Option (List ℕ)) (held : Held) (held_now : Option Held) (bytes : List ℕ) (left_now : Option (List ℕ)) : Type 0 where
+  pub start : Start
+  pub starts : start_of held source ≡ Ok start
+  pub unbegun : IsUnbegun trace k out_before out_now held held_now bytes left_now
+
 -- the machine of a source was cut in its run
 pub record IsJobCut (source : Source) (turns : ℕ) (trace : Option (List ℕ)) (k : ℕ) (status : Status) (out_before out_now : Option (List ℕ)) (held : Held) (held_now : Option Held) (bytes : List ℕ) (left_now : Option (List ℕ)) : Type 0 where
   pub start : Start
@@ -152,11 +158,11 @@ RunLeaves source turns trace k (ReadFault Files) out out' held held' bytes left 
 RunLeaves source turns trace k (ReadFault Input) out out' held held' bytes left = IsJobCut source turns trace k (ReadFault Input) out out' held held' bytes left
 RunLeaves source turns trace k (ReadFault Out) out out' held held' bytes left = ⊥
 RunLeaves source turns trace k (ReadFault Report) out out' held held' bytes left = ⊥
-RunLeaves source turns trace k (WriteFault Files) out out' held held' bytes left = IsUnbegun trace k out out' held held' bytes left ⊎ IsJobCut source turns trace k (WriteFault Files) out out' held held' bytes left
+RunLeaves source turns trace k (WriteFault Files) out out' held held' bytes left = IsUnstarted source trace k out out' held held' bytes left ⊎ IsJobCut source turns trace k (WriteFault Files) out out' held held' bytes left
 RunLeaves source turns trace k (WriteFault Input) out out' held held' bytes left = ⊥
 RunLeaves source turns trace k (WriteFault Out) out out' held held' bytes left = IsJobCut source turns trace k (WriteFault Out) out out' held held' bytes left
 RunLeaves source turns trace k (WriteFault Report) out out' held held' bytes left = ⊥
-RunLeaves source turns trace k NoMemory out out' held held' bytes left = IsUnbegun trace k out out' held held' bytes left ⊎ IsJobCut source turns trace k NoMemory out out' held held' bytes left
+RunLeaves source turns trace k NoMemory out out' held held' bytes left = IsUnbegun None k out out' held held' bytes left ⊎ (IsUnstarted source trace k out out' held held' bytes left ⊎ IsJobCut source turns trace k NoMemory out out' held held' bytes left)
 RunLeaves source turns trace k Done out out' held held' bytes left = HasDone (job_result (Run source turns trace) held bytes) out out' held held' bytes left
 RunLeaves source turns trace k Usage out out' held held' bytes left = HasDone (job_result (Run source turns trace) held bytes) out out' held held' bytes left
 RunLeaves source turns trace k (BadConfig fault) out out' held held' bytes left = HasDone (job_result (Run source turns trace) held bytes) out out' held held' bytes left
