@@ -1,5 +1,5 @@
 -- What a fault leaves: of one turn, of a run, and of a job.
-use Rattle.std.proofs.Common.{◌≡◌, ℕ, ◌<◌, List, [], ◌++◌, take, drop, Option, Some, None, sym, ap, subst, ◌∙◌, inl, inr}
+use Rattle.std.proofs.Common.{◌≡◌, ℕ, ◌+◌, ◌<◌, List, [], ◌++◌, take, drop, Option, Some, None, sym, ap, subst, ◌∙◌, inl, inr}
 use Rattle.std.proofs.lemmas.List.{append-nil}
 use Rattle.std.specs.Io.KnownBytes.{Appends, Keeps}
 use Rattle.outside_io.specs.declared.OutFault.{OutFault}
@@ -29,13 +29,13 @@ trace_part turn console events trace out out' held held' console_is events_are s
   files = subst (λ (es : List Event). Told held held' (λ before now. (n : ℕ) × AddsLines trace (take n (trace_lines es)) before now)) events_are cut;
 }
 
-pub cut_in_trace : (bytes : List ℕ) (m : MachineState) (fault : OutFault) (status : Status) (console : List ℕ) (events : List Event) (feed : Feed) (left left' : Option (List ℕ)) (trace out out' : Option (List ℕ)) (held held' : Option Held) → status ≡ fault_status fault (WriteFault Files) → console ≡ (turn_on bytes m).console → events ≡ (turn_on bytes m).events → Appends out out' console → Told held held' (λ before now. (n : ℕ) × AddsLines trace (take n (trace_lines events)) before now) → IsTurnCut bytes m status feed left left' trace out out' held held'
-cut_in_trace bytes m fault.Failed status console events feed left left' trace out out' held held' is console_is events_are shown cut =
+pub cut_in_trace : (bytes : List ℕ) (m : MachineState) (fault : OutFault) (status : Status) (console : List ℕ) (events : List Event) (feed : Feed) (left left' : Option (List ℕ)) (trace out out' : Option (List ℕ)) (held held' : Option Held) → status ≡ fault_status fault (WriteFault Files) → console ≡ (turn_on bytes m).console → events ≡ (turn_on bytes m).events → Appends out out' console → Told held held' (λ before now. (n : ℕ) × AddsLines trace (take n (trace_lines events)) before now) → left' ≡ Some (drop (m.taken + 1) bytes) → IsTurnCut bytes m status feed left left' trace out out' held held'
+cut_in_trace bytes m fault.Failed status console events feed left left' trace out out' held held' is console_is events_are shown cut read =
     subst (λ (s : Status). IsTurnCut bytes m s feed left left' trace out out' held held') (sym is)
-    (record { cut = trace_part (turn_on bytes m) console events trace out out' held held' console_is events_are shown cut; unread = λ same. cc })
-cut_in_trace bytes m fault.NoMemory status console events feed left left' trace out out' held held' is console_is events_are shown cut =
+    (record { cut = trace_part (turn_on bytes m) console events trace out out' held held' console_is events_are shown cut; unread = λ same. cc; read = λ other. read })
+cut_in_trace bytes m fault.NoMemory status console events feed left left' trace out out' held held' is console_is events_are shown cut read =
     subst (λ (s : Status). IsTurnCut bytes m s feed left left' trace out out' held held') (sym is)
-    (record { cut = inr (trace_part (turn_on bytes m) console events trace out out' held held' console_is events_are shown cut); unread = λ same. cc })
+    (record { cut = inr (trace_part (turn_on bytes m) console events trace out out' held held' console_is events_are shown cut); unread = λ same. cc; read = λ other. read })
 
 -- ---- a run
 
@@ -106,4 +106,5 @@ run_cut bytes start turns k m status feed left left' trace out out' out'' held h
   cut = cut_after status (turn_on bytes (run bytes start k).machine) trace (run bytes start k).console (trace_lines (run bytes start k).events) out out' out'' held held' held'' stands.written.console stands.written.files
       (subst (λ (x : MachineState). IsCutBy status (turn_on bytes x) (AddsLines trace) [] [] out' out'' held' held'') stands.machine_is cut.cut);
   least = λ is. least bytes start k m feed left left' trace out out' held held' stands (cut.unread is);
+  read = λ other. cut.read other ∙ ap (λ (x : MachineState). Some (drop (x.taken + 1) bytes)) stands.machine_is;
 }

@@ -61,6 +61,7 @@ run_held bytes start turns k status left trace out out' held b c first cut = rec
   goes = cut.goes;
   cut = cut_held status (turn_on bytes (run bytes start k).machine) trace (run bytes start k).console (trace_lines (run bytes start k).events) out out' held b c first cut.cut;
   least = cut.least;
+  read = cut.read;
 }
 
 -- a status that is none of a cut run has no cut turn

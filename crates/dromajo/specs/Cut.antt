@@ -1,6 +1,6 @@
 -- What a fault of the outside, or want of memory, leaves of a run: that of so many whole turns, and a part of the
 -- next turn at the most.
-use Rattle.std.specs.Prelude.{◌≡◌, ◌≢◌, ◌<◌, ◌⊎◌, ℕ, List, [], ◌++◌, drop, take, Option, Some, None, IsFalse}
+use Rattle.std.specs.Prelude.{◌≡◌, ◌≢◌, ◌<◌, ◌⊎◌, ℕ, ◌+◌, List, [], ◌++◌, drop, take, Option, Some, None, IsFalse}
 use Rattle.std.specs.Io.KnownBytes.{Appends, Keeps}
 use Rattle.outside_io.specs.Content.{Held, KeepsOthers, MayBeEmptied, Told}
 use Rattle.hart_turns.specs.declared.machine.TurnEnd.TheVariants.{Goes}
@@ -64,6 +64,8 @@ pub record ReadNothing (feed : Feed) (left left_now : Option (List ℕ)) : Type 
 pub record IsTurnCut (bytes : List ℕ) (m : MachineState) (status : Status) (feed : Feed) (left left_now : Option (List ℕ)) (trace : Option (List ℕ)) (out_before out_now : Option (List ℕ)) (held_before held_now : Option Held) : Type 0 where
   pub cut : IsCutBy status (turn_on bytes m) (AddsLines trace) [] [] out_before out_now held_before held_now
   pub unread : status ≡ ReadFault Input → ReadNothing feed left left_now
+  -- the byte that is offered was read before the turn was made
+  pub read : status ≢ ReadFault Input → left_now ≡ Some (drop (m.taken + 1) bytes)
 
 -- ---- a run
 
@@ -79,6 +81,8 @@ pub record IsRunCut (bytes : List ℕ) (start : MachineState) (turns k : ℕ) (s
   pub goes : (run bytes start k).last ≡ Goes
   pub cut : IsCutBy status (turn_on bytes (run bytes start k).machine) Logs (run bytes start k).console (trace_lines (run bytes start k).events) out_before out_now held_before held_now
   pub least : status ≡ ReadFault Input → IsLeast bytes start k left_now
+  -- the byte that the next turn is offered was read, where the input has one
+  pub read : status ≢ ReadFault Input → left_now ≡ Some (drop ((run bytes start k).machine.taken + 1) bytes)
 
 -- ---- a job
 
