@@ -1,5 +1,5 @@
 -- Why a status is answered, where what the outside holds does not say it.
-use Rattle.std.specs.Prelude.{◌≡◌, ℕ}
+use Rattle.std.specs.Prelude.{◌≡◌, ℕ, List, Option, IsSome}
 use Rattle.outside_io.specs.declared.OutFault.{OutFault}
 use Rattle.outside_io.specs.declared.OutFault.TheVariants as fault
 use Rattle.outside_io.specs.Causes.{Rose}
@@ -47,38 +47,38 @@ OutFailed before now = Rose before.out now.out × NonePassedOver (record before 
 -- ---- statuses
 
 -- a turn fails only where the count of the object that its status names rose and no other, or where memory lacked
--- and none rose
-abbrev pub HasTurnCause : Status → Counts → Counts → Type 0
-HasTurnCause (ReadFault Input) before now = InputFailed before now
-HasTurnCause (WriteFault Out) before now = OutFailed before now
-HasTurnCause (WriteFault Files) before now = WritingFailed before now
-HasTurnCause NoMemory before now = NonePassedOver before now
-HasTurnCause (ReadFault Files) before now = ⊥
-HasTurnCause (ReadFault Out) before now = ⊥
-HasTurnCause (ReadFault Report) before now = ⊥
-HasTurnCause (WriteFault Input) before now = ⊥
-HasTurnCause (WriteFault Report) before now = ⊥
-HasTurnCause Done before now = ⊥
-HasTurnCause Usage before now = ⊥
-HasTurnCause (BadConfig f) before now = ⊥
-HasTurnCause (BadElf f) before now = ⊥
-HasTurnCause (GuestEnded code turn) before now = ⊥
-HasTurnCause (BadHostWord word turn) before now = ⊥
+-- and none rose; files are written only where there is a trace
+abbrev pub HasTurnCause : Status → Option (List ℕ) → Counts → Counts → Type 0
+HasTurnCause (ReadFault Input) trace before now = InputFailed before now
+HasTurnCause (WriteFault Out) trace before now = OutFailed before now
+HasTurnCause (WriteFault Files) trace before now = IsSome trace × WritingFailed before now
+HasTurnCause NoMemory trace before now = NonePassedOver before now
+HasTurnCause (ReadFault Files) trace before now = ⊥
+HasTurnCause (ReadFault Out) trace before now = ⊥
+HasTurnCause (ReadFault Report) trace before now = ⊥
+HasTurnCause (WriteFault Input) trace before now = ⊥
+HasTurnCause (WriteFault Report) trace before now = ⊥
+HasTurnCause Done trace before now = ⊥
+HasTurnCause Usage trace before now = ⊥
+HasTurnCause (BadConfig f) trace before now = ⊥
+HasTurnCause (BadElf f) trace before now = ⊥
+HasTurnCause (GuestEnded code turn) trace before now = ⊥
+HasTurnCause (BadHostWord word turn) trace before now = ⊥
 
 -- why a run ends: as a turn that fails, or where no count rose
-abbrev pub HasRunCause : Status → Counts → Counts → Type 0
-HasRunCause Done before now = NonePassedOver before now
-HasRunCause (GuestEnded code turn) before now = NonePassedOver before now
-HasRunCause (BadHostWord word turn) before now = NonePassedOver before now
-HasRunCause (ReadFault Input) before now = InputFailed before now
-HasRunCause (WriteFault Out) before now = OutFailed before now
-HasRunCause (WriteFault Files) before now = WritingFailed before now
-HasRunCause NoMemory before now = NonePassedOver before now
-HasRunCause (ReadFault Files) before now = ⊥
-HasRunCause (ReadFault Out) before now = ⊥
-HasRunCause (ReadFault Report) before now = ⊥
-HasRunCause (WriteFault Input) before now = ⊥
-HasRunCause (WriteFault Report) before now = ⊥
-HasRunCause Usage before now = ⊥
-HasRunCause (BadConfig f) before now = ⊥
-HasRunCause (BadElf f) before now = ⊥
+abbrev pub HasRunCause : Status → Option (List ℕ) → Counts → Counts → Type 0
+HasRunCause Done trace before now = NonePassedOver before now
+HasRunCause (GuestEnded code turn) trace before now = NonePassedOver before now
+HasRunCause (BadHostWord word turn) trace before now = NonePassedOver before now
+HasRunCause (ReadFault Input) trace before now = InputFailed before now
+HasRunCause (WriteFault Out) trace before now = OutFailed before now
+HasRunCause (WriteFault Files) trace before now = IsSome trace × WritingFailed before now
+HasRunCause NoMemory trace before now = NonePassedOver before now
+HasRunCause (ReadFault Files) trace before now = ⊥
+HasRunCause (ReadFault Out) trace before now = ⊥
+HasRunCause (ReadFault Report) trace before now = ⊥
+HasRunCause (WriteFault Input) trace before now = ⊥
+HasRunCause (WriteFault Report) trace before now = ⊥
+HasRunCause Usage trace before now = ⊥
+HasRunCause (BadConfig f) trace before now = ⊥
+HasRunCause (BadElf f) trace before now = ⊥

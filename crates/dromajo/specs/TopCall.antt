@@ -1,5 +1,5 @@
 -- What one call of the program leaves: the result of a job, the causes of its statuses, and its report.
-use Rattle.std.specs.Prelude.{◌≡◌, ◌≢◌, ◌⊎◌, ℕ, List, [], drop, take, Option, Some, None, IfSome, Result, Ok, Err, ⊤}
+use Rattle.std.specs.Prelude.{◌≡◌, ◌≢◌, ◌⊎◌, ℕ, List, [], drop, take, Option, Some, None, IfSome, IsSome, Result, Ok, Err, ⊤}
 use Rattle.std.specs.Io.KnownBytes.{Appends}
 use Rattle.outside_io.specs.Causes.{Rose}
 use Rattle.outside_io.specs.Content.{Held, Told}
@@ -177,9 +177,15 @@ JobLeaves (Some (Run source turns trace)) k status out out' held held' bytes lef
 
 -- ---- causes
 
+-- the job writes a trace
+abbrev pub NamesTrace : Option Job → Type 0
+NamesTrace None = ⊥
+NamesTrace (Some (Run source turns trace)) = IsSome trace
+
 -- the causes of the status of a job, before its report: the first fault ends the job, so beside the count of the object
 -- that the status names none rose, and where the outside did not fail, or memory lacked, none at all; Usage only where
--- the words name no job, and BadConfig never carries want of memory
+-- the words name no job, a fault of writing files only where they name a trace, and BadConfig never carries want of
+-- memory
 abbrev pub HasJobCause : Status → Option Job → Counts → Counts → Type 0
 HasJobCause Usage job before now = (job ≡ None) × NonePassedOver before now
 HasJobCause Done job before now = NonePassedOver before now
@@ -192,7 +198,7 @@ HasJobCause (ReadFault Files) job before now = ReadingFailed before now
 HasJobCause (ReadFault Input) job before now = InputFailed before now
 HasJobCause (ReadFault Out) job before now = ⊥
 HasJobCause (ReadFault Report) job before now = ⊥
-HasJobCause (WriteFault Files) job before now = WritingFailed before now
+HasJobCause (WriteFault Files) job before now = NamesTrace job × WritingFailed before now
 HasJobCause (WriteFault Input) job before now = ⊥
 HasJobCause (WriteFault Out) job before now = OutFailed before now
 HasJobCause (WriteFault Report) job before now = ⊥

@@ -73,7 +73,7 @@ pub(crate) fn run<F: Files, I: Source, O: Sink>(
         IsRunCut bytes machine.old.machine turns result.turns result.status (I.left input.new)
         (AddsLines (option_map text_seen trace.entry)) (O.written out.old) (O.written out.new)
         (F.held files.old) (F.held files.new) }
-    ensures cause { HasRunCause result.status
+    ensures cause { HasRunCause result.status (option_map text_seen trace.entry)
         (counts (F.read_faults files.old) (F.write_faults files.old) (I.faults input.old) (O.faults out.old))
         (counts (F.read_faults files.new) (F.write_faults files.new) (I.faults input.new) (O.faults out.new)) }
     ensures other_count { F.read_faults files.new ≡ F.read_faults files.old }

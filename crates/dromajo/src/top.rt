@@ -1,6 +1,6 @@
 // The top call: the words, the job, the report.
 
-ghost use Rattle.std.specs.Prelude.{◌≡◌, ◌≤◌, IfSome, List, None, OnErr, OnOk, ℕ, Some, option_map, []};
+ghost use Rattle.std.specs.Prelude.{◌≡◌, ◌≤◌, IfSome, IsErr, IsSome, List, None, OnErr, OnOk, ℕ, Some, option_map, []};
 ghost use Rattle.outside_io.specs.Causes.{Rose};
 ghost use Rattle.outside_io.specs.Causes.{HasCause as HasCallCause};
 ghost use Rattle.outside_io.specs.Content.{Told};
@@ -41,6 +41,7 @@ fn start_trace<F: Files>(files: &mut F, trace: Option<&str>) -> Result<(), OutFa
     ensures cut { OnErr result (Told (F.held files.old) (F.held files.new) (MayBeStarted (option_map text_seen trace.entry))) }
     ensures cause { HasCallCause (F.write_faults files.old) (F.write_faults files.new) result }
     ensures other_count { F.read_faults files.new ≡ F.read_faults files.old }
+    ensures named { IsErr result → IsSome (option_map text_seen trace.entry) }
 {
     match trace {
         Some(name) => files.start(name),

@@ -1,6 +1,6 @@
 // One turn of a run: the input, the steps, the console and the trace.
 
-ghost use Rattle.std.specs.Prelude.{◌≡◌, ◌≢◌, ◌≤◌, ◌<◌, ◌+◌, ◌++◌, ℕ, [], List, All, Err, IfErr, IfOk, IsFalse, None, OnOk, OnErr, option_map, take};
+ghost use Rattle.std.specs.Prelude.{◌≡◌, ◌≢◌, ◌≤◌, ◌<◌, ◌+◌, ◌++◌, ℕ, [], List, All, Err, IfErr, IfOk, IsErr, IsFalse, IsSome, None, OnOk, OnErr, option_map, take};
 ghost use Rattle.std.specs.Io.KnownBytes.{Appends};
 ghost use Rattle.outside_io.specs.declared.OutFault.TheVariants.{NoMemory};
 ghost use Rattle.outside_io.specs.Causes.{HasCause};
@@ -89,6 +89,7 @@ fn log<F: Files>(
         AddsLines (option_map text_seen trace.entry) (take n (trace_lines machine.now.events)) before now)) }
     ensures cause { HasCause (F.write_faults files.old) (F.write_faults files.new) result }
     ensures other_count { F.read_faults files.new ≡ F.read_faults files.old }
+    ensures named { IsErr result → IsSome (option_map text_seen trace.entry) }
 {
     let Some(name) = trace else {
         return Ok(());
@@ -138,7 +139,7 @@ pub(crate) fn run_turn<F: Files, I: Source, O: Sink>(
         (F.held files.old) (F.held files.new)) }
     ensures took { OnOk result (feed.new.held ≡ None → IsFalse feed.new.ended →
         machine.new.machine.taken ≡ machine.old.machine.taken + 1) }
-    ensures cause { IfErr result (λ status. HasTurnCause status
+    ensures cause { IfErr result (λ status. HasTurnCause status (option_map text_seen trace.entry)
         (counts (F.read_faults files.old) (F.write_faults files.old) (I.faults input.old) (O.faults out.old))
         (counts (F.read_faults files.new) (F.write_faults files.new) (I.faults input.new) (O.faults out.new))) }
     ensures kept { OnOk result ((F.write_faults files.new ≡ F.write_faults files.old)
