@@ -1,5 +1,5 @@
 -- A run, one turn more of it, and what stands on the way.
-use Rattle.std.proofs.Common.{◌≡◌, ◌≢◌, ◌⊎◌, inl, inr, IsFalse, ℕ, zero, suc, ◌+◌, ◌-◌, ◌≤◌, List, [], ◌++◌, Option, Some, None, refl, sym, ap, subst, ◌∙◌, append_assoc, add-one, arith}
+use Rattle.std.proofs.Common.{◌≡◌, ◌≢◌, ◌⊎◌, inl, inr, IsFalse, ℕ, zero, suc, ◌+◌, ◌-◌, ◌≤◌, List, [], ◌++◌, drop, Option, Some, None, refl, sym, ap, subst, ◌∙◌, append_assoc, add-one, arith}
 use Rattle.std.proofs.lemmas.List.{append-nil}
 use Rattle.outside_io.specs.Content.{Held, Told}
 use Rattle.hart_turns.specs.declared.machine.TurnEnd.{TurnEnd}
@@ -90,7 +90,7 @@ stands_first bytes start feed left trace out held fresh told fed = record {
   goes = refl;
   made = refl;
   fed = subst (λ (n : ℕ). IsFed bytes n feed left) (sym fresh) (subst (λ (l : Option (List ℕ)). IsFed bytes 0 feed l) (sym told) fed);
-  written = record { console = appends_none out; files = files_none trace held; read = told };
+  written = record { console = appends_none out; files = files_none trace held; read = told ∙ ap (λ (n : ℕ). Some (drop n bytes)) (sym fresh) };
   later = λ j most. let none : j ≡ 0 = omega (arith, most) in subst (λ (i : ℕ). (run bytes start i).machine.taken ≤ start.taken) (sym none) (omega arith);
   took = λ none goes j before. absurd (omega (arith, before));
 }

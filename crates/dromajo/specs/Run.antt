@@ -11,7 +11,7 @@ use Rattle.dromajo.specs.declared.status.Status.TheVariants.{Done, GuestEnded, B
 
 -- a machine that has run: the console bytes that it has sent, its events, the turns made, how the last of them
 -- ended, and how many bytes of the input were read for them. That is one more than were taken when the last turn
--- began; where the input has no more, all of it
+-- began; where no turn was begun, as many as were taken; where the input has no more, all of it
 pub record Ran : Type 0 where
   pub machine : MachineState
   pub console : List ℕ
@@ -21,7 +21,7 @@ pub record Ran : Type 0 where
   pub last : TurnEnd
 
 abbrev pub at_start : MachineState → Ran
-at_start m = record { machine = m; console = []; events = []; made = 0; read = 0; last = Goes }
+at_start m = record { machine = m; console = []; events = []; made = 0; read = m.taken; last = Goes }
 
 -- the turn of a machine on an input
 abbrev pub turn_on : List ℕ → MachineState → Turned
