@@ -249,8 +249,8 @@ pub record Sides : Type 0 where
   pub input : Option (List ℕ)
   pub input_now : Option (List ℕ)
 
--- there is a status before the report, whose line was written, and the call leaves what the job leaves that ended
--- with it, whose causes it has; where what the outside holds is told, and that status is settled, the line is that of
+-- there is a status before the report, which has its causes and whose line was written, and the call leaves what the
+-- job leaves that ended with it; where what the outside holds is told, and that status is settled, the line is that of
 -- the job's result
 pub record Reported (answered : Status) (job : Option Job) (sides : Sides) (counts_before counts_now : Counts) (old new : Option (List ℕ)) (count_before count_now : ℕ) : Type 0 where
   pub before : Status

@@ -1,8 +1,10 @@
 // Runs of the whole program without a trace. The words of the programs are an assembler's (llvm-mc), each
 // with its assembly beside it, and what comes of them is reckoned by hand.
 
-use crate::test_support::{Outside, Row, elf, expect_row, image_of};
+use crate::test_support::{Outside, Row, elf, expect_row, expect_written, image_of};
 use outside_io::Source;
+use std::alloc::Global;
+use std::process::Abort;
 use std::test::Fail;
 
 // A letter to the console.
@@ -141,18 +143,32 @@ fn a_byte_is_read_where_the_last_one_was_taken(rt: HostRuntime) -> Result<(), Fa
         let mut buf = [0u8; 2];
         assert!(rt; outside.input.read(&mut buf).is_err(), "{bytes}");
         assert_eq!(rt; outside.input.read(&mut buf), Ok(0), "{bytes}");
-        let mut failing = Outside::new(rt.alloc(), "", &WAITS, bytes.as_bytes())?;
-        failing.fail_at([0, reads, 0, 0])?;
-        assert_eq!(rt;
-            failing.call(rt.alloc(), "run --image a.bin --turns 20")?,
-            7,
-            "{bytes}"
-        );
-        assert_eq!(rt;
-            failing.report.bytes(),
-            b"read fault input\n".as_slice(),
-            "{bytes}"
-        );
+    }
+    Ok(())
+}
+
+// The read of the input after so many fails, and what these did not read is left.
+fn expect_failed_read(rt: &impl Abort, alloc: Global, bytes: &str, done: u64) -> Result<(), Fail> {
+    let mut outside = Outside::new(alloc, "", &WAITS, bytes.as_bytes())?;
+    outside.fail_at([0, done.wrapping_add(1), 0, 0])?;
+    assert_eq!(rt;
+        outside.call(alloc, "run --image a.bin --turns 20")?,
+        7,
+        "{bytes} {done}"
+    );
+    expect_written(rt, &outside, "read fault input\n", "", bytes);
+    let left = bytes.len().wrapping_sub(done as usize);
+    let mut buf = [0u8; 32];
+    assert_eq!(rt; outside.input.read(&mut buf), Ok(left), "{bytes} {done}");
+    Ok(())
+}
+
+#[test]
+fn each_read_of_the_input_may_fail(rt: HostRuntime) -> Result<(), Fail> {
+    for (bytes, _, reads) in INPUTS {
+        for done in 0..reads {
+            expect_failed_read(&rt, rt.alloc(), bytes, done)?;
+        }
     }
     Ok(())
 }
@@ -292,6 +308,45 @@ fn a_word_in_the_window_ends_the_run_and_leaves_the_offered_byte(
             console: "",
             trace: None,
             left,
+        };
+        expect_row(&rt, rt.alloc(), &mut outside, &row)?;
+    }
+    Ok(())
+}
+
+// Configurations that are refused, and how.
+static REFUSED: [(&str, &str); 6] = [
+    (
+        "{\"harts\":9,\"ram\":65536,\"slice\":1,\"program\":\"p.elf\"}",
+        "config out-of-range harts\n",
+    ),
+    (
+        "{\"harts\":1,\"ram\":65536,\"slice\":1,\"program\":\"p.elf\",\"x\":0}",
+        "config unknown x\n",
+    ),
+    (
+        "{\"harts\":1,\"ram\":65537,\"slice\":1,\"program\":\"p.elf\"}",
+        "config out-of-range ram\n",
+    ),
+    ("[]", "config wrong-kind top\n"),
+    ("", "config not-json\n"),
+    (
+        "{\"harts\":1.0,\"ram\":65536,\"slice\":1,\"program\":\"p.elf\"}",
+        "config wrong-kind harts\n",
+    ),
+];
+
+#[test]
+fn a_configuration_that_is_refused_starts_nothing(rt: HostRuntime) -> Result<(), Fail> {
+    for (config, report) in REFUSED {
+        let mut outside = Outside::new(rt.alloc(), config, &LETTER, b"xy")?;
+        let row = Row {
+            line: "run --config c --turns 1000 --trace t",
+            code: 3,
+            report,
+            console: "",
+            trace: None,
+            left: "xy",
         };
         expect_row(&rt, rt.alloc(), &mut outside, &row)?;
     }
