@@ -20,7 +20,7 @@ use Rattle.trap_rules.specs.Status.{has, machine_previous, supervisor_previous}
 use Rattle.sv39_walk.specs.declared.Kind.{Kind}
 use Rattle.board_bus.specs.Listed.{is_listed}
 use Rattle.hart_step.specs.declared.access.Extension.{Extension}
-use Rattle.hart_step.specs.declared.done.Done.{Done}
+use Rattle.hart_step.specs.Shown.{Done}
 use Rattle.hart_step.specs.declared.hart.Hart.{Hart}
 use Rattle.hart_step.specs.Answers.{Access, Given, Stores, Untouched, after_access}
 use Rattle.hart_step.specs.Harts.{is_in_debug, register, shown_register, with_register}

@@ -1,7 +1,7 @@
 -- What every event of a step keeps, and what an instruction shows of itself.
 use Rattle.std.specs.Prelude.{ℕ, ◌^◌, ◌<◌, ◌≤◌, Option, Some, None}
 use Rattle.guest_ram.specs.Bytes.{IsSize}
-use Rattle.hart_step.specs.declared.done.Done.{Done}
+use Rattle.hart_step.specs.Shown.{Done}
 use Rattle.hart_step.specs.declared.event.Event.{Event}
 use Rattle.hart_step.specs.declared.event.Event.TheVariants.{Commit, Exception, Interrupt, Host}
 use Rattle.hart_step.specs.declared.event.Put.{Put}

@@ -6,3 +6,4 @@ pub mod Effects
 pub mod Step
 pub mod Events
 pub mod Fit
+pub mod Shown

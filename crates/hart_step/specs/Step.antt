@@ -14,7 +14,7 @@ use Rattle.sv39_walk.specs.declared.Kind.{Kind}
 use Rattle.hart_step.specs.declared.event.Event.{Event}
 use Rattle.hart_step.specs.declared.event.Put.{Put}
 use Rattle.hart_step.specs.declared.event.Event.TheVariants.{Commit, Exception as Raised, Interrupt, Host}
-use Rattle.hart_step.specs.declared.done.Done.{Done}
+use Rattle.hart_step.specs.Shown.{Done}
 use Rattle.hart_step.specs.declared.fetch.Fetched.{Fetched}
 use Rattle.hart_step.specs.declared.hart.Hart.{Hart}
 use Rattle.hart_step.specs.Answers.{Access, Given, Untouched, after_access}

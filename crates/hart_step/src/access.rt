@@ -4,7 +4,7 @@ ghost use Rattle.std.specs.Prelude.{◌≡◌, ◌%◌, ◌^◌, ◌<◌, ◌≤
 ghost use Rattle.guest_ram.specs.Bytes.{IsSize};
 ghost use Rattle.hart_step.specs.Answers.{given_by};
 ghost use Rattle.hart_step.specs.Effects.{Leaves, extended_by, loads_at, low_bytes, shows_store, stores_at};
-ghost use Rattle.hart_step.specs.Events.{IsDone};
+ghost use Rattle.hart_step.specs.Events.{IsDone, IsWritten};
 ghost use Rattle.hart_step.specs.Harts.{IsFitHart, StaysFit};
 
 use crate::answers::Answers;
@@ -83,13 +83,8 @@ fn load_bytes<A: Answers>(
     }
     if listed(site.harts, at, size) {
         let word = answers.device_load(site.hart, at, size);
-        return Ok(Done {
-            rd: put_register(hart, rd, extended(extension, size, word), next),
-            st: None,
-            dv: Some(word),
-            vl: None,
-            wrote: None,
-        });
+        let shown = put_register(hart, rd, extended(extension, size, word), next);
+        return Ok(Done::answered(shown, word));
     }
     if hart.is_in_debug() && memory.rom_holds(at, size) {
         let value = extended(extension, size, memory.rom_read(at, size));
@@ -127,20 +122,16 @@ pub(crate) fn load<A: Answers>(
     load_bytes(site, hart, memory, answers, size, extension, va, rd)
 }
 
-/// What is shown of a store of the low `size` bytes of a value.
+/// What is shown of a store of the low `size` bytes of a value, by an instruction that shows this register
+/// too.
 #[inline(always)]
-pub(crate) fn stored(at: u64, size: u8, value: u64) -> Done
-    requires { IsSize size }
-    ensures shown { result ≡ shows_store at size value }
+pub(crate) fn stored(rd: Option<(u64, u64)>, at: u64, size: u8, value: u64) -> Done
+    requires size { IsSize size }
+    requires register { IsWritten rd }
+    ensures shown { result ≡ record (shows_store at size value) { rd = rd } }
     ensures formed { IsDone result }
 {
-    Done {
-        rd: None,
-        st: Some(Stored::new(at, size, low(size, value))),
-        dv: None,
-        vl: None,
-        wrote: None,
-    }
+    Done::stored(rd, Stored::new(at, size, low(size, value)))
 }
 
 /// The low `size` bytes of a value.
@@ -186,12 +177,12 @@ fn store_bytes<A: Answers>(
     if memory.holds(at, size) {
         memory.write(at, size, value);
         hart.pc = next;
-        return Ok(stored(at, size, value));
+        return Ok(stored(None, at, size, value));
     }
     if listed(site.harts, at, size) {
         answers.device_store(site.hart, at, size, low(size, value), memory.ram());
         hart.pc = next;
-        return Ok(stored(at, size, value));
+        return Ok(stored(None, at, size, value));
     }
     Err(Exception::access(Kind::Store, va))
 }

@@ -46,13 +46,8 @@ pub(crate) fn write(hart: &mut Hart, rd: u8, value: u64, next: u64) -> Result<Do
     ensures formed { IfOk result IsDone }
     ensures fit { StaysFit hart.old hart.new }
 {
-    Ok(Done {
-        rd: put_register(hart, rd, value, next),
-        st: None,
-        dv: None,
-        vl: None,
-        wrote: None,
-    })
+    let shown = put_register(hart, rd, value, next);
+    Ok(Done::plain(shown))
 }
 
 /// Writes the value of an operation on a register and an immediate.

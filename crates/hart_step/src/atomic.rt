@@ -104,13 +104,8 @@ pub(crate) fn store_conditional<A: Answers>(
         return write(hart, rd, 1, next);
     }
     memory.write(at, size, value);
-    Ok(Done {
-        rd: put_register(hart, rd, 0, next),
-        st: stored(at, size, value).st,
-        dv: None,
-        vl: None,
-        wrote: None,
-    })
+    let shown = put_register(hart, rd, 0, next);
+    Ok(stored(shown, at, size, value))
 }
 
 /// The body of [`update`], which stands once for all its instructions.
@@ -144,13 +139,8 @@ fn update_bytes(
     let old = memory.read(at, size);
     let new = amo_value(op, size, old, value);
     memory.write(at, size, new);
-    Ok(Done {
-        rd: put_register(hart, rd, extended(Extension::Signed, size, old), next),
-        st: stored(at, size, new).st,
-        dv: None,
-        vl: None,
-        wrote: None,
-    })
+    let shown = put_register(hart, rd, extended(Extension::Signed, size, old), next);
+    Ok(stored(shown, at, size, new))
 }
 
 /// Loads `size` bytes from the address in x`rs1` into x`rd`, and stores the value of an operation on

@@ -44,13 +44,7 @@ pub(crate) fn pass(hart: &mut Hart, next: u64) -> Result<Done, Exception>
     ensures fit { StaysFit hart.old hart.new }
 {
     hart.pc = next;
-    Ok(Done {
-        rd: None,
-        st: None,
-        dv: None,
-        vl: None,
-        wrote: None,
-    })
+    Ok(Done::plain(None))
 }
 
 /// Jumps to an offset from the pc, with the link in a register.

@@ -1,6 +1,6 @@
 // Memory as the harts of a core reach it.
 
-ghost use Rattle.std.specs.Prelude.{◌≡◌, ◌%◌, ◌^◌, ◌<◌, ◌*◌, ◌↔◌, IfOk, IsTrue, length, ◌≤◌, []};
+ghost use Rattle.std.specs.Prelude.{◌≡◌, ◌==◌, ◌%◌, ◌^◌, ◌<◌, ◌*◌, ◌↔◌, IfOk, IsTrue, length, ◌≤◌, []};
 ghost use Rattle.byteorder.specs.Endian.{little_bytes};
 ghost use Rattle.guest_ram.specs.Bytes.{IsSize, has_part, number_at, with_part};
 ghost use Rattle.hart_step.specs.Fit.{AreBytes};
@@ -138,7 +138,7 @@ impl Memory {
         ensures aligned { IfOk result (λ at. at % size ≡ 0) }
         ensures same { self.new ≡ self.old }
     {
-        if va % u64::from(size) != 0 {
+        if !is_aligned(va, size) {
             return Err(Exception::misaligned(kind, va));
         }
         self.physical(hart, hart.data_mode(), kind, va)
@@ -228,5 +228,19 @@ impl Memory {
             4 => u64::from(LittleEndian::read_u32(bytes)),
             _ => LittleEndian::read_u64(bytes),
         }
+    }
+}
+
+/// Whether an address is a multiple of an access's size.
+#[inline(always)]
+fn is_aligned(va: u64, size: u8) -> bool
+    requires { IsSize size }
+    ensures { result ≡ (va % size == 0) }
+{
+    match size {
+        1 => true,
+        2 => va % 2 == 0,
+        4 => va % 4 == 0,
+        _ => va % 8 == 0,
     }
 }

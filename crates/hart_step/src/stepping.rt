@@ -4,14 +4,13 @@ ghost use Rattle.std.specs.Prelude.{◌≡◌, ◌%◌, ◌<◌, ◌≤◌, ◌^
 ghost use Rattle.trap_rules.specs.Interrupt.{MayCome};
 ghost use Rattle.hart_step.specs.Answers.{given_by};
 ghost use Rattle.hart_step.specs.declared.event.Event.{Event as EventOf};
-ghost use Rattle.hart_step.specs.Events.{IsEvent, IsStored, IsWritten};
+ghost use Rattle.hart_step.specs.Events.{IsEvent};
 ghost use Rattle.hart_step.specs.Harts.{IsFitHart, StaysFit};
 ghost use Rattle.hart_step.specs.Step.{StepLeaves, decoded, enters, fetched, from_decoded, from_fetched, hart_step, retired, shows, traps};
 
 use crate::access::Site;
 use crate::answers::Answers;
-use crate::done::Stored;
-use crate::event::{Event, Priv, Put};
+use crate::event::{Event, Priv};
 use crate::exception::Exception;
 use crate::execute::execute;
 use crate::fetch::{decode_fetched, fetch};
@@ -80,30 +79,6 @@ fn retire(hart: &mut Hart, was_in_debug: bool, wrote: Option<u16>)
     }
 }
 
-/// The bytes that an event shows as stored.
-#[inline]
-fn put_of(st: Option<Stored>) -> Option<Put>
-    requires { IsStored st }
-    ensures { result ≡ st }
-{
-    match st {
-        Some(stored) => Some(stored.put()),
-        None => None,
-    }
-}
-
-/// The register that an event shows as written.
-#[inline]
-fn written(rd: Option<(u64, u64)>) -> Option<(u8, u64)>
-    requires { IsWritten rd }
-    ensures { result ≡ rd }
-{
-    match rd {
-        Some((number, value)) => Some((number as u8, value)),
-        None => None,
-    }
-}
-
 /// Carries out the fetched word at a site.
 #[inline(always)]
 fn carry_out<A: Answers>(
@@ -138,17 +113,9 @@ fn carry_out<A: Answers>(
     };
     match execute(site, insn, hart, memory, answers) {
         Ok(done) => {
-            retire(hart, was_in_debug, done.wrote);
-            *event = Event::Commit {
-                hart: site.hart,
-                mode,
-                pc,
-                insn: site.word,
-                rd: written(done.rd),
-                st: put_of(done.st),
-                dv: done.dv,
-                vl: done.vl,
-            };
+            let wrote = done.wrote();
+            done.show(event, site.hart, mode, pc, site.word);
+            retire(hart, was_in_debug, wrote);
         }
         Err(exception) => take_exception(site.hart, hart, mode, pc, &exception, event),
     }

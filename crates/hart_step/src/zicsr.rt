@@ -104,17 +104,14 @@ fn access(site: Site, hart: &mut Hart, rd: u8, wanted: Wanted) -> Result<Done, E
     let next = following(hart, site.len);
     let old = hart.csrs.get(wanted.csr, wanted.seen);
     put(hart, wanted.writes, wanted.csr, wanted.value);
-    Ok(Done {
-        rd: put_register(hart, rd, old, next),
-        st: None,
-        dv: None,
-        vl: shown_word(wanted.reads, wanted.csr, wanted.seen),
-        wrote: if wanted.writes {
-            Some(wanted.csr)
-        } else {
-            None
-        },
-    })
+    let shown = put_register(hart, rd, old, next);
+    let seen = shown_word(wanted.reads, wanted.csr, wanted.seen);
+    let wrote = if wanted.writes {
+        Some(wanted.csr)
+    } else {
+        None
+    };
+    Ok(Done::accessed(shown, seen, wrote))
 }
 
 /// Writes a value to register `csr`, and reads the old one where x`rd` is not x0.

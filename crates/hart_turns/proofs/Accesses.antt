@@ -1,5 +1,5 @@
 -- One step of the machine, by what the step of its core says.
-use Rattle.std.proofs.Common.{◌≡◌, ℕ, ◌+◌, ◌*◌, ◌≤◌, List, [], ◌∷◌, ◌++◌, length, vec_capacity, vec_len, refl, ap, sym, ◌∙◌, subst, arith}
+use Rattle.std.proofs.Common.{◌≡◌, ℕ, ◌+◌, ◌*◌, ◌≤◌, List, [], ◌∷◌, ◌++◌, length, refl, ap, sym, ◌∙◌, subst, arith}
 use Rattle.std.proofs.lemmas.List.{append-nil, length-append}
 use Rattle.board_bus.specs.Board.{hart_count}
 use Rattle.board_bus.specs.Laws.{LoadKeepsHarts, SendsAtMost, StoreKeepsHarts}
@@ -32,17 +32,17 @@ accessed loads stores sends o h ram (Stores at size value) = record {
   short = let most = sends ram o.board at size value in let sum = length-append o.output.bytes (sent_by ram o.board (Stores at size value)) in omega arith;
 }
 
-made : (before after : Running) (event : Event) (a : Answer) → Accessed before.outside after.outside after.core.ram a.access → event ≡ a.event → after.core ≡ a.core → length after.core.harts ≡ length before.core.harts → length after.core.ram ≡ length before.core.ram → after.events.items ≡ before.events.items ++ event ∷ [] → vec_len after.events ≡ vec_len before.events + 1 → vec_capacity after.events ≡ vec_capacity before.events → AfterSteps before after (after_answer (progress_of before) a) 1
-made before after event a access event_is core_is harts ram items len capacity = record {
+made : (before after : Running) (event : Event) (a : Answer) → Accessed before.outside after.outside after.core.ram a.access → event ≡ a.event → after.core ≡ a.core → length after.core.harts ≡ length before.core.harts → length after.core.ram ≡ length before.core.ram → after.events.items ≡ before.events.items ++ event ∷ [] → after.events.room ≡ before.events.room → AfterSteps before after (after_answer (progress_of before) a) 1
+made before after event a access event_is core_is harts ram items places = record {
   progress_is = rw (access.board, access.bytes, items, event_is, core_is) refl;
-  form = record { harts = harts; devices = access.harts; ram = ram; room = access.room; capacity = capacity };
+  form = record { harts = harts; devices = access.harts; ram = ram; room = access.room; places = places };
   console = let short = access.short in omega arith;
-  events = len;
+  events = ap length items ∙ length-append before.events.items (event ∷ []);
 }
 
-pub step_made : LoadKeepsHarts → StoreKeepsHarts → SendsAtMost → (before after : Running) (h : ℕ) (event : Event) → event ≡ (step (board_gives before.outside.board h (hart_of before.core h)) before.core h).event → after.core ≡ (step (board_gives before.outside.board h (hart_of before.core h)) before.core h).core → length after.core.harts ≡ length before.core.harts → length after.core.ram ≡ length before.core.ram → after.outside ≡ after_access outside_loaded outside_stored before.outside h after.core.ram (step (board_gives before.outside.board h (hart_of before.core h)) before.core h).access → after.events.items ≡ before.events.items ++ event ∷ [] → vec_len after.events ≡ vec_len before.events + 1 → vec_capacity after.events ≡ vec_capacity before.events → AfterSteps before after (one_step h (progress_of before)) 1
+pub step_made : LoadKeepsHarts → StoreKeepsHarts → SendsAtMost → (before after : Running) (h : ℕ) (event : Event) → event ≡ (step (board_gives before.outside.board h (hart_of before.core h)) before.core h).event → after.core ≡ (step (board_gives before.outside.board h (hart_of before.core h)) before.core h).core → length after.core.harts ≡ length before.core.harts → length after.core.ram ≡ length before.core.ram → after.outside ≡ after_access outside_loaded outside_stored before.outside h after.core.ram (step (board_gives before.outside.board h (hart_of before.core h)) before.core h).access → after.events.items ≡ before.events.items ++ event ∷ [] → after.events.room ≡ before.events.room → AfterSteps before after (one_step h (progress_of before)) 1
 unfolding one_step
-step_made loads stores sends before after h event event_is core_is harts ram outside items len capacity =
+step_made loads stores sends before after h event event_is core_is harts ram outside items places =
     let a : Answer = step (board_gives before.outside.board h (hart_of before.core h)) before.core h in
     let access : Accessed before.outside after.outside after.core.ram a.access = subst (λ (o : Outside). Accessed before.outside o after.core.ram a.access) (sym outside) (accessed loads stores sends before.outside h after.core.ram a.access) in
-    made before after event a access event_is core_is harts ram items len capacity
+    made before after event a access event_is core_is harts ram items places

@@ -6,7 +6,7 @@ use Rattle.hart_turns.specs.Kept.{AfterSteps, KeepsForm, progress_of}
 use Rattle.hart_turns.specs.Turn.{Progress, all_steps, hart_steps, one_step}
 
 same_form : (r : Running) → KeepsForm r r
-same_form r = record { harts = refl; devices = refl; ram = refl; room = refl; capacity = refl }
+same_form r = record { harts = refl; devices = refl; ram = refl; room = refl; places = refl }
 
 pub form_on : (a b c : Running) → KeepsForm a b → KeepsForm b c → KeepsForm a c
 form_on a b c one two = record {
@@ -14,7 +14,7 @@ form_on a b c one two = record {
   devices = two.devices ∙ one.devices;
   ram = two.ram ∙ one.ram;
   room = two.room ∙ one.room;
-  capacity = two.capacity ∙ one.capacity;
+  places = two.places ∙ one.places;
 }
 
 -- no step

@@ -1,5 +1,5 @@
 -- What the code keeps of a turn.
-use Rattle.std.specs.Prelude.{◌≡◌, ℕ, ◌+◌, ◌*◌, ◌≤◌, List, ◌++◌, All, length, vec_capacity, vec_len}
+use Rattle.std.specs.Prelude.{◌≡◌, ℕ, ◌+◌, ◌*◌, ◌≤◌, List, ◌++◌, All, length}
 use Rattle.board_bus.specs.Board.{after_load, hart_count, sent, stored}
 use Rattle.hart_step.specs.declared.event.Event.{Event}
 use Rattle.hart_step.specs.Events.{IsEvent}
@@ -35,12 +35,12 @@ pub record KeepsForm (before after : Running) : Type 0 where
   pub devices : hart_count after.outside.board ≡ hart_count before.outside.board
   pub ram : length after.core.ram ≡ length before.core.ram
   pub room : after.outside.output.room ≡ before.outside.output.room
-  pub capacity : vec_capacity after.events ≡ vec_capacity before.events
+  pub places : after.events.room ≡ before.events.room
 
 -- there is room for so many more steps and for the host's word: each sends at most 256 bytes and shows one event
 pub record HasRoom (r : Running) (steps : ℕ) : Type 0 where
   pub console : length r.outside.output.bytes + 256 * steps + 1 ≤ r.outside.output.room
-  pub events : vec_len r.events + steps + 1 ≤ vec_capacity r.events
+  pub events : length r.events.items + steps + 1 ≤ r.events.room
 
 -- where all events of the turn are well formed before, they are so after
 abbrev pub StaysFormed : Running → Running → Type 0
@@ -51,11 +51,11 @@ pub record AfterSteps (before after : Running) (p : Progress) (n : ℕ) : Type 0
   pub progress_is : progress_of after ≡ p
   pub form : KeepsForm before after
   pub console : length after.outside.output.bytes ≤ length before.outside.output.bytes + 256 * n
-  pub events : vec_len after.events ≡ vec_len before.events + n
+  pub events : length after.events.items ≡ length before.events.items + n
 
 -- the parts of a machine fit its shape, its buffers have room for a turn, and each event is well formed
 pub record IsMachine (shape : Shape) (r : Running) : Type 0 where
   pub fits : FitsShape shape r.core r.outside.board
   pub console : 256 * (shape.harts * shape.slice) + 1 ≤ r.outside.output.room
-  pub events : shape.harts * shape.slice + 1 ≤ vec_capacity r.events
+  pub events : shape.harts * shape.slice + 1 ≤ r.events.room
   pub formed : All IsEvent r.events.items

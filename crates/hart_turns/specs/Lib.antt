@@ -4,3 +4,4 @@ pub mod Turn
 pub mod Kept
 pub mod Fit
 pub mod Laws
+pub mod Events

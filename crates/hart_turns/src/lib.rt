@@ -2,6 +2,7 @@
 //! a turn, and [`Machine::turn`] is that turn.
 #![tactic(auto)]
 
+mod events;
 mod laws;
 mod machine;
 mod outside;

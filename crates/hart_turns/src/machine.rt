@@ -9,6 +9,7 @@ ghost use Rattle.hart_turns.specs.Fit.{IsFit};
 ghost use Rattle.hart_turns.specs.Machine.{is_running, reset_machine};
 ghost use Rattle.hart_turns.specs.Turn.{taken_after, takes, turned};
 
+use crate::events::EventList;
 use crate::outside::Outside;
 use crate::running::Running;
 use board_bus::Board;
@@ -45,7 +46,7 @@ pub struct Machine {
 }
 
 impl Model for Machine {
-    ghost use Rattle.std.specs.Prelude.{◌≡◌, ◌≤◌, ◌+◌, ◌*◌, vec_capacity};
+    ghost use Rattle.std.specs.Prelude.{◌≡◌, ◌≤◌, ◌+◌, ◌*◌};
     ghost use Rattle.hart_turns.specs.Kept.{IsMachine, MachineView};
 
     ghost Value = { MachineView };
@@ -81,7 +82,7 @@ impl Machine {
         let steps = usize::from(shape.harts) * usize::from(shape.slice);
         let core = Core::new(alloc, shape.harts, ram, entry)?;
         let output = OutBuf::new(alloc, 256 * steps as u64 + 1)?;
-        let events = Vec::with_capacity(alloc, steps + 1)?;
+        let events = EventList::new(alloc, steps + 1)?;
         let outside = Outside {
             board: Board::new(shape.harts),
             output,

@@ -1,6 +1,6 @@
 // A machine within a turn.
 
-ghost use Rattle.std.specs.Prelude.{◌≡◌, ◌⊎◌, ◌+◌, ◌*◌, ◌<◌, ◌≤◌, ◌%◌, [], All, length, vec_capacity};
+ghost use Rattle.std.specs.Prelude.{◌≡◌, ◌⊎◌, ◌+◌, ◌*◌, ◌<◌, ◌≤◌, ◌%◌, [], All, length};
 ghost use Rattle.guest_ram.specs.Bytes.{HasPart};
 ghost use Rattle.board_bus.specs.Board.{hart_count};
 ghost use Rattle.board_bus.specs.Window.{host_says};
@@ -9,6 +9,7 @@ ghost use Rattle.hart_step.specs.Events.{IsEvent};
 ghost use Rattle.hart_turns.specs.Kept.{AfterSteps, HasRoom, KeepsForm, StaysFormed, progress_of};
 ghost use Rattle.hart_turns.specs.Turn.{after_window, all_steps, end_of, hart_steps, looked_after, one_step, window_after};
 
+use crate::events::EventList;
 use crate::machine::TurnEnd;
 use crate::outside::Outside;
 use board_bus::{HostSays, access_laws, host_word};
@@ -19,7 +20,7 @@ use hart_step::{Core, Event};
 pub(crate) struct Running {
     pub(crate) core: Core,
     pub(crate) outside: Outside,
-    pub(crate) events: Vec<Event>,
+    pub(crate) events: EventList,
 }
 
 impl Running {
@@ -43,10 +44,7 @@ impl Running {
         ensures formed { StaysFormed self.old self.new }
     {
         access_laws();
-        let place = self.events.len();
-        self.events.push_reserved(Event::Host { word: 0 });
-        let event = &mut self.events[place];
-        self.core.step_into(h, &mut self.outside, event);
+        self.events.push_step(&mut self.core, h, &mut self.outside);
     }
 
     /// So many steps of hart `h`.
@@ -81,7 +79,7 @@ impl Running {
         requires devices { hart_count self.old.outside.board ≡ length self.old.core.harts }
         requires window { (tohost ≡ 0) ⊎ ((tohost % 8 ≡ 0) × HasPart self.old.core.ram tohost 8) }
         requires console { 256 * (harts * steps) + 1 ≤ self.old.outside.output.room }
-        requires events { harts * steps + 1 ≤ vec_capacity self.old.events }
+        requires events { harts * steps + 1 ≤ self.old.events.room }
         ensures end { result ≡ end_of (window_after harts steps tohost (progress_of self.old)) }
         ensures progress { progress_of self.new ≡ looked_after harts steps tohost (progress_of self.old) }
         ensures form { KeepsForm self.old self.new }
@@ -130,6 +128,6 @@ impl Running {
         let word = self.core.ram().read(tohost, 8);
         self.core.host_clear(tohost);
         self.outside.output.push(byte);
-        self.events.push_reserved(Event::Host { word });
+        self.events.push(Event::Host { word });
     }
 }
