@@ -1,7 +1,7 @@
 #!/usr/bin/env bash
 # Steps per second of the built program on an image that loops over lui, addi, sb and jal, for a million
 # turns of 16 steps, beside a run of 0 turns that takes the start-up away.
-# Run it at the top of the checkout after `rt run` or `rt check` has built crates/dromajo/out/dromajo.
+# Run it at the top of the checkout after `rt run` in crates/dromajo has built out/dromajo.
 set -eu
 program=${1:-crates/dromajo/out/dromajo}
 turns=${2:-1000000}
@@ -18,7 +18,7 @@ words = [
 ]
 open(sys.argv[1], "wb").write(b"".join(w.to_bytes(4, "little") for w in words))
 PY
-seconds() { local s e; s=$(date +%s.%N); "$program" run --image "$work/loop.bin" --turns "$1" 2>"$work/report"; e=$(date +%s.%N); python3 -c "print($e - $s)"; }
+seconds() { local s e; s=$(date +%s.%N); "$program" run --image "$work/loop.bin" --turns "$1" < /dev/null 2>"$work/report"; e=$(date +%s.%N); python3 -c "print($e - $s)"; }
 idle=$(seconds 0)
 busy=$(seconds "$turns")
 cat "$work/report"

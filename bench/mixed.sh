@@ -15,7 +15,7 @@ image = "1704000013040440854216958d0508e01060b306b6023387c60093074706e39687fee5b
 #       addi a5,a4,100; bne a5,s0,loop; c.j loop
 open(sys.argv[1], "wb").write(bytes.fromhex(image))
 PY
-seconds() { local s e; s=$(date +%s.%N); "$program" run --image "$work/loop.bin" --turns "$1" 2>"$work/report"; e=$(date +%s.%N); python3 -c "print($e - $s)"; }
+seconds() { local s e; s=$(date +%s.%N); "$program" run --image "$work/loop.bin" --turns "$1" < /dev/null 2>"$work/report"; e=$(date +%s.%N); python3 -c "print($e - $s)"; }
 idle=$(seconds 0)
 busy=$(seconds "$turns")
 cat "$work/report"

@@ -26,3 +26,10 @@ done
 
 # The tests hold the flat images as arrays.
 python3 ../tools/example_images.py
+
+# Where the simulator is built, the C programs are run.
+program=../crates/dromajo/out/dromajo
+if [ -x "$program" ]; then
+    "$program" run --config harts.json --turns 1000 < /dev/null | cmp - harts.out
+    "$program" run --config tables.json --turns 1000000 < /dev/null | cmp - tables.out
+fi

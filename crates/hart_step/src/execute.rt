@@ -171,7 +171,7 @@ pub(crate) fn execute<A: Answers>(
         Insn::Csrrci { rd, uimm, csr } => {
             clear_csr(site, hart, answers, rd, csr, uimm != 0, u64::from(uimm))
         }
-        Insn::Ecall => Err(Exception::call(hart.effective_mode())),
+        Insn::Ecall => Err(Exception::call(hart.acting_mode())),
         Insn::Ebreak => Err(Exception::breakpoint(hart.pc)),
         Insn::Sret => {
             if hart.may_return_supervisor() {

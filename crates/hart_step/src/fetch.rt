@@ -26,7 +26,7 @@ fn parcel(hart: &Hart, memory: &mut Memory, va: u64) -> Result<u64, Exception>
     ensures fits { IfOk result (λ low. low < 0x10000) }
     ensures same { memory.new ≡ memory.old }
 {
-    let at = memory.physical(hart, hart.effective_mode(), Kind::Fetch, va)?;
+    let at = memory.physical(hart, hart.acting_mode(), Kind::Fetch, va)?;
     if memory.holds(at, 2) {
         return Ok(memory.read(at, 2));
     }

@@ -7,16 +7,14 @@ ghost use Rattle.hart_step.specs.Memory.{acting_mode, data_mode};
 use crate::hart::Hart;
 use crate::registers::mstatus;
 use csr_file::masks::{MSTATUS_MPRV, MSTATUS_TSR, MSTATUS_TVM, MSTATUS_TW};
-pub(crate) use csr_file::masks::{MSTATUS_MXR, MSTATUS_SUM};
 use rv_alu::Mode;
-pub(crate) use trap_rules::has;
-use trap_rules::machine_previous;
+use trap_rules::{has, machine_previous};
 
 impl Hart {
     /// The mode in which the hart fetches and carries out instructions: debug mode counts as machine
     /// mode.
     #[inline(always)]
-    pub(crate) fn effective_mode(&self) -> Mode
+    pub(crate) fn acting_mode(&self) -> Mode
         ensures { result ≡ acting_mode self.now }
     {
         if self.is_in_debug() {
@@ -64,7 +62,7 @@ impl Hart {
     pub(crate) fn may_wait(&self) -> bool
         ensures { result ≡ may_wait self.now }
     {
-        self.effective_mode() == Mode::M || !has(mstatus(&self.csrs), MSTATUS_TW)
+        self.acting_mode() == Mode::M || !has(mstatus(&self.csrs), MSTATUS_TW)
     }
 
     /// Whether `sfence.vma` is legal now.
@@ -72,7 +70,7 @@ impl Hart {
     pub(crate) fn may_fence_translation(&self) -> bool
         ensures { result ≡ may_fence_translation self.now }
     {
-        is_open(MSTATUS_TVM, mstatus(&self.csrs), self.effective_mode())
+        is_open(MSTATUS_TVM, mstatus(&self.csrs), self.acting_mode())
     }
 }
 
