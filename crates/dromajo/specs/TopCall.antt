@@ -9,7 +9,6 @@ use Rattle.dromajo.specs.declared.program.Start.{Start}
 use Rattle.dromajo.specs.declared.status.Status.{Status}
 use Rattle.dromajo.specs.declared.status.Status.TheVariants.{Done, Usage, BadConfig, BadElf, ReadFault, WriteFault, NoMemory, GuestEnded, BadHostWord}
 use Rattle.dromajo.specs.declared.status.Which.TheVariants.{Files, Input, Out, Report}
-use Rattle.dromajo.specs.Causes.{Counts, InputFailed, NonePassedOver, OutFailed, ReadingFailed, WritingFailed}
 use Rattle.dromajo.specs.CommandLine.{Job, Run, Source}
 use Rattle.dromajo.specs.Cut.{IsRunCut, IsUnbegun}
 use Rattle.dromajo.specs.Feeding.{HoldsTrace}
@@ -176,6 +175,36 @@ JobLeaves None k status out out' held held' bytes left = HasDone (refused Usage)
 JobLeaves (Some (Run source turns trace)) k status out out' held held' bytes left = RunLeaves source turns trace k status out out' held held' bytes left
 
 -- ---- causes
+
+-- the counts of faults of the objects that a job uses; files have one for reading and one for writing
+pub record Counts : Type 0 where
+  pub files : ℕ
+  pub writes : ℕ
+  pub input : ℕ
+  pub out : ℕ
+
+abbrev pub counts : ℕ → ℕ → ℕ → ℕ → Counts
+counts files writes input out = record { files = files; writes = writes; input = input; out = out }
+
+-- no fault of the files, the input or the console was passed over
+pub record NonePassedOver (before now : Counts) : Type 0 where
+  pub files : now.files ≡ before.files
+  pub writes : now.writes ≡ before.writes
+  pub input : now.input ≡ before.input
+  pub out : now.out ≡ before.out
+
+-- one count rose, and no other: that of reading files, of writing them, of the input, or of the console
+abbrev pub ReadingFailed : Counts → Counts → Type 0
+ReadingFailed before now = Rose before.files now.files × NonePassedOver (record before { files = now.files }) now
+
+abbrev pub WritingFailed : Counts → Counts → Type 0
+WritingFailed before now = Rose before.writes now.writes × NonePassedOver (record before { writes = now.writes }) now
+
+abbrev pub InputFailed : Counts → Counts → Type 0
+InputFailed before now = Rose before.input now.input × NonePassedOver (record before { input = now.input }) now
+
+abbrev pub OutFailed : Counts → Counts → Type 0
+OutFailed before now = Rose before.out now.out × NonePassedOver (record before { out = now.out }) now
 
 -- the job writes a trace
 abbrev pub NamesTrace : Option Job → Type 0

@@ -2,13 +2,13 @@
 
 ghost use Rattle.std.specs.Prelude.{◌≡◌, ◌≢◌, ◌≤◌, ◌<◌, ℕ, List, IsTrue, IsFalse, Some, option_map};
 ghost use Rattle.hart_turns.specs.declared.machine.TurnEnd.TheVariants.{Goes};
-ghost use Rattle.dromajo.specs.Causes.{HasRunCause, counts};
+ghost use Rattle.dromajo.specs.Causes.{HasRunCause};
 ghost use Rattle.dromajo.specs.Cut.{IsRunCut};
 ghost use Rattle.dromajo.specs.Feeding.{AddsLines, AppendsFront};
 ghost use Rattle.dromajo.specs.Run.{end_status};
 ghost use Rattle.dromajo.specs.Run.{run as run_of};
 ghost use Rattle.dromajo.specs.Standing.{IsRun};
-ghost use Rattle.dromajo.specs.TopCall.{IsSettled};
+ghost use Rattle.dromajo.specs.TopCall.{IsSettled, counts};
 ghost use Rattle.dromajo.specs.Walk.{text_seen};
 
 use crate::feed::Feed;

@@ -4,12 +4,11 @@ ghost use Rattle.std.specs.Prelude.{◌≡◌, ◌≤◌, IfSome, IsErr, IsSome,
 ghost use Rattle.outside_io.specs.Causes.{Rose};
 ghost use Rattle.outside_io.specs.Causes.{HasCause as HasCallCause};
 ghost use Rattle.outside_io.specs.Content.{Told};
-ghost use Rattle.dromajo.specs.Causes.{NonePassedOver, counts};
 ghost use Rattle.dromajo.specs.CommandLine.{job_of, texts};
 ghost use Rattle.dromajo.specs.CommandLine.{Run as RunJob};
 ghost use Rattle.dromajo.specs.Cut.{MayBeStarted};
 ghost use Rattle.dromajo.specs.Feeding.{AppendsFront, HoldsTrace};
-ghost use Rattle.dromajo.specs.TopCall.{HasCause, HasJobCause, IsBefore, IsFinished, IsJobResult, IsSettled, IsUsage, JobLeaves, Leaves, Reported, Reports, failed_report, job_result, result_of};
+ghost use Rattle.dromajo.specs.TopCall.{HasCause, HasJobCause, IsBefore, IsFinished, IsJobResult, IsSettled, IsUsage, JobLeaves, Leaves, NonePassedOver, Reported, Reports, counts, failed_report, job_result, result_of};
 ghost use Rattle.dromajo.specs.Walk.{source_seen, text_seen};
 
 use crate::program::load_start;

@@ -6,10 +6,11 @@ ghost use Rattle.outside_io.specs.declared.OutFault.TheVariants.{NoMemory};
 ghost use Rattle.outside_io.specs.Causes.{HasCause};
 ghost use Rattle.outside_io.specs.Content.{Told};
 ghost use Rattle.commit_log.specs.Spelling.{HasSpelling};
-ghost use Rattle.dromajo.specs.Causes.{HasTurnCause, counts, fault_status};
+ghost use Rattle.dromajo.specs.Causes.{HasTurnCause, fault_status};
 ghost use Rattle.dromajo.specs.Cut.{IsTurnCut, ReadNothing};
 ghost use Rattle.dromajo.specs.Feeding.{AddsLines, AppendsFront, IsFed, IsShown, IsTurned};
 ghost use Rattle.dromajo.specs.Run.{trace_lines, turn_on};
+ghost use Rattle.dromajo.specs.TopCall.{counts};
 ghost use Rattle.dromajo.specs.Walk.{text_seen};
 
 use crate::feed::Feed;
