@@ -5,6 +5,7 @@ use Rattle.std.specs.Io.KnownBytes.{Appends, Keeps}
 use Rattle.outside_io.specs.declared.OutFault.{OutFault}
 use Rattle.outside_io.specs.declared.OutFault.TheVariants as fault
 use Rattle.outside_io.specs.Content.{Held, Told}
+use Rattle.outside_io.proofs.StreamLemmas.{more_appended}
 use Rattle.hart_step.specs.declared.event.Event.{Event}
 use Rattle.hart_turns.specs.Machine.{MachineState}
 use Rattle.hart_turns.specs.Turn.{Turned}
@@ -18,7 +19,6 @@ use Rattle.dromajo.specs.Feeding.{AddsLines}
 use Rattle.dromajo.specs.Run.{run, trace_lines, turn_on}
 use Rattle.dromajo.specs.Standing.{StandsAt}
 use Rattle.dromajo.proofs.Feeds.{left_whole}
-use Rattle.dromajo.proofs.Fronts.{appends_both}
 use Rattle.dromajo.proofs.Runs.{adds_both, files_both}
 
 -- ---- one turn
@@ -42,7 +42,7 @@ cut_in_trace bytes m fault.NoMemory status console events feed left left' trace 
 -- the cut turn after what was sent and logged before it
 after_nothing : (trace : Option (List ℕ)) (sent logged : List ℕ) (out out' out'' : Option (List ℕ)) (held held' held'' : Option Held) → Appends out out' sent → Told held held' (AddsLines trace logged) → WritesNothing (AddsLines trace) [] [] out' out'' held' held'' → WritesNothing (AddsLines trace) sent logged out out'' held held''
 after_nothing trace sent logged out out' out'' held held' held'' first lines part = record {
-  console = subst (λ (zs : List ℕ). Appends out out'' zs) (append-nil sent) (appends_both out out' out'' sent [] first part.console);
+  console = subst (λ (zs : List ℕ). Appends out out'' zs) (append-nil sent) (more_appended out out' out'' sent [] first part.console);
   files = subst (λ (zs : List ℕ). Told held held'' (AddsLines trace zs)) (append-nil logged) (files_both trace logged [] held held' held'' lines part.files);
 }
 
@@ -50,7 +50,7 @@ after_console : (turn : Turned) (trace : Option (List ℕ)) (sent logged : List 
 after_console turn trace sent logged out out' out'' held held' held'' first lines part = record {
   some = part.some;
   count = part.count;
-  console = appends_both out out' out'' sent (take part.count turn.console) first part.console;
+  console = more_appended out out' out'' sent (take part.count turn.console) first part.console;
   files = subst (λ (zs : List ℕ). Told held held'' (AddsLines trace zs)) (append-nil logged) (files_both trace logged [] held held' held'' lines part.files);
 }
 
@@ -62,7 +62,7 @@ lines_front trace logged lines (Some x) (Some y) (Some z) first (n, second) = (n
 
 after_trace : (turn : Turned) (trace : Option (List ℕ)) (sent logged : List ℕ) (out out' out'' : Option (List ℕ)) (held held' held'' : Option Held) → Appends out out' sent → Told held held' (AddsLines trace logged) → CutInTrace turn (AddsLines trace) [] [] out' out'' held' held'' → CutInTrace turn (AddsLines trace) sent logged out out'' held held''
 after_trace turn trace sent logged out out' out'' held held' held'' first lines part = record {
-  console = appends_both out out' out'' sent turn.console first part.console;
+  console = more_appended out out' out'' sent turn.console first part.console;
   files = lines_front trace logged (trace_lines turn.events) held held' held'' lines part.files;
 }
 

@@ -3,17 +3,12 @@ use Rattle.std.proofs.Common.{◌≡◌, ℕ, ◌≤◌, List, [], ◌++◌, len
 use Rattle.std.proofs.lemmas.List.{append-nil, take-append-drop, take_at}
 use Rattle.std.specs.Io.KnownBytes.{Appends}
 use Rattle.outside_io.specs.declared.OutFault.{OutFault}
+use Rattle.outside_io.proofs.StreamLemmas.{more_appended}
 use Rattle.dromajo.specs.Feeding.{AppendsFront}
 
 pub appends_none : (told : Option (List ℕ)) → Appends told told []
 appends_none None = tt
 appends_none (Some xs) = sym (append-nil xs)
-
-pub appends_both : (a b c : Option (List ℕ)) (xs ys : List ℕ) → Appends a b xs → Appends b c ys → Appends a c (xs ++ ys)
-appends_both None b c xs ys first second = tt
-appends_both (Some ws) None c xs ys first second = absurd first
-appends_both (Some ws) (Some vs) None xs ys first second = absurd second
-appends_both (Some ws) (Some vs) (Some us) xs ys first second = second ∙ ap (λ (zs : List ℕ). zs ++ ys) first ∙ append_assoc ws xs ys
 
 -- the bytes begin with these
 abbrev pub BeginsWith : List ℕ → List ℕ → Type 0
@@ -39,7 +34,7 @@ pub then_front : (a b c : Option (List ℕ)) (xs ys whole : List ℕ) → Append
 then_front a b c xs ys whole first (n, second) begins =
     let some_of : List ℕ = take n ys in
     let begun : BeginsWith (xs ++ ys) (xs ++ some_of) = (drop n ys, ap (λ (zs : List ℕ). xs ++ zs) (sym (take-append-drop n ys)) ∙ sym (append_assoc xs some_of (drop n ys))) in
-    front_of a c (xs ++ some_of) whole (appends_both a b c xs some_of first second) (begins_more (xs ++ some_of) (xs ++ ys) whole begun begins)
+    front_of a c (xs ++ some_of) whole (more_appended a b c xs some_of first second) (begins_more (xs ++ some_of) (xs ++ ys) whole begun begins)
 
 pub front_of_write : (old now : Option (List ℕ)) (piece bytes : List ℕ) (result : Result (Unit {0}) OutFault) → piece ≡ bytes → OnOk result (Appends old now piece) → OnErr result ((n : ℕ) × (n ≤ length piece) × Appends old now (take n piece)) → AppendsFront old now bytes
 front_of_write old now piece bytes (Ok x) is whole prefix = whole_front old now bytes (subst (λ (xs : List ℕ). Appends old now xs) is whole)

@@ -1,7 +1,6 @@
 pub mod Numbers
 pub mod Pairs
 pub mod Telling
-pub mod Digits
 pub mod Filling
 pub mod Answered
 pub mod Starts

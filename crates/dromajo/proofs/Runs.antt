@@ -2,6 +2,7 @@
 use Rattle.std.proofs.Common.{◌≡◌, ◌≢◌, ◌⊎◌, inl, inr, IsFalse, ℕ, zero, suc, ◌+◌, ◌-◌, ◌≤◌, List, [], ◌++◌, drop, Option, Some, None, refl, sym, ap, subst, ◌∙◌, append_assoc, add-one, arith}
 use Rattle.std.proofs.lemmas.List.{append-nil}
 use Rattle.outside_io.specs.Content.{Held, Told}
+use Rattle.outside_io.proofs.StreamLemmas.{more_appended}
 use Rattle.hart_turns.specs.declared.machine.TurnEnd.{TurnEnd}
 use Rattle.hart_turns.specs.declared.machine.TurnEnd.TheVariants.{Goes, Ended, BadHost}
 use Rattle.hart_turns.specs.Machine.{MachineState}
@@ -9,7 +10,7 @@ use Rattle.dromajo.specs.declared.feed.Feed.{Feed}
 use Rattle.dromajo.specs.Feeding.{AddsLines, AppendsFront, HoldsTrace, IsFed, IsShown}
 use Rattle.dromajo.specs.Run.{Ran, after_turn, at_start, goes_on, run, trace_lines, turn_on}
 use Rattle.dromajo.specs.Standing.{IsWritten, StandsAt}
-use Rattle.dromajo.proofs.Fronts.{BeginsWith, appends_both, appends_none, begins_itself, begins_more, front_of, then_front}
+use Rattle.dromajo.proofs.Fronts.{BeginsWith, appends_none, begins_itself, begins_more, front_of, then_front}
 use Rattle.dromajo.proofs.Lines.{lines_joined, no_lines}
 
 -- ---- files
@@ -109,7 +110,7 @@ written_next : (bytes : List ℕ) (ran : Ran) (m now : MachineState) (end : Turn
 written_next bytes ran m now end feed mid left trace out out' out'' held held' held'' is written shown =
     let here : IsShown bytes ran.machine now end feed left trace out' out'' held' held'' = subst (λ (x : MachineState). IsShown bytes x now end feed left trace out' out'' held' held'') is shown in
     record {
-      console = appends_both out out' out'' ran.console (turn_on bytes ran.machine).console written.console here.console;
+      console = more_appended out out' out'' ran.console (turn_on bytes ran.machine).console written.console here.console;
       files = subst (λ (zs : List ℕ). Told held held'' (AddsLines trace zs)) (sym (lines_joined ran.events (turn_on bytes ran.machine).events))
           (files_both trace (trace_lines ran.events) (trace_lines (turn_on bytes ran.machine).events) held held' held'' written.files here.files);
       read = here.read;
