@@ -7,7 +7,6 @@ pub mod Starts
 pub mod Feeds
 pub mod Fronts
 pub mod Lines
-pub mod Spelled
 pub mod Runs
 pub mod Cuts
 pub mod Results
