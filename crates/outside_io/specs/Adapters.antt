@@ -21,13 +21,13 @@ abbrev pub std_sink_faults : {W : Type 0} → StdSink W → ℕ
 std_sink_faults sink = sink.faults
 
 -- the file access that it asks
-abbrev pub dir_files_runtime : {R : Type 0} → DirFiles R → R
+abbrev pub dir_files_runtime : {R File Dir : Type 0} → DirFiles R File Dir → R
 dir_files_runtime files = files.runtime
 
 -- its count of reading faults
-abbrev pub dir_files_read_faults : {R : Type 0} → DirFiles R → ℕ
+abbrev pub dir_files_read_faults : {R File Dir : Type 0} → DirFiles R File Dir → ℕ
 dir_files_read_faults files = files.read_faults
 
 -- its count of writing faults
-abbrev pub dir_files_write_faults : {R : Type 0} → DirFiles R → ℕ
+abbrev pub dir_files_write_faults : {R File Dir : Type 0} → DirFiles R File Dir → ℕ
 dir_files_write_faults files = files.write_faults

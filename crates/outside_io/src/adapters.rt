@@ -30,10 +30,13 @@ pub struct StdSink<W> {
 }
 
 /// The files of the system, by the runtime's file access. A name is a path as given. A path that
-/// cannot be opened is a fault, and so is one with a zero byte or one of a folder.
+/// cannot be opened is a fault, and so is one with a zero byte or one of a folder. The file that
+/// was last appended to stays open until another is appended to, one is started or a write fails.
 #[derive(Drop)]
-pub struct DirFiles<R> {
+pub struct DirFiles<R: FileAccess> {
     runtime: R,
+    // The file that was last appended to, with the name it was opened by.
+    appended: Option<(String, R::File)>,
     pub(crate) read_faults: u64,
     pub(crate) write_faults: u64,
 }
@@ -130,13 +133,27 @@ fn start_file<R: FileAccess>(runtime: &R, path: &str) -> io::Result<()> {
     Ok(())
 }
 
-// Writes the whole piece at the end of a file that is there.
-fn append_to_file<R: FileAccess>(runtime: &R, path: &str, piece: &[u8]) -> io::Result<()> {
-    let mut file = OpenOptions::new().append(true).open(runtime, path)?;
-    write_whole(&mut file, piece)
+// Writes the whole piece at the end of the kept file, where it has this name, or else of a file
+// that is there. It is then kept, unless there is no memory for its name.
+fn append_to_file<R: FileAccess + AllocGlobal>(
+    runtime: &R,
+    kept: &mut Option<(String, R::File)>,
+    path: &str,
+    piece: &[u8],
+) -> io::Result<()> {
+    let (name, mut file) = match kept.take() {
+        Some((name, file)) if name.as_str() == path => (Some(name), file),
+        _ => (
+            String::from_str(runtime.alloc(), path).ok(),
+            OpenOptions::new().append(true).open(runtime, path)?,
+        ),
+    };
+    write_whole(&mut file, piece)?;
+    *kept = name.map(|name| (name, file));
+    Ok(())
 }
 
-impl<R: FileAccess + Drop> DirFiles<R> {
+impl<R: FileAccess + AllocGlobal + Drop> DirFiles<R> {
     /// The files that this file access reaches.
     pub fn new(runtime: R) -> Self
         ensures runtime { dir_files_runtime result ≡ runtime }
@@ -145,13 +162,14 @@ impl<R: FileAccess + Drop> DirFiles<R> {
     {
         DirFiles {
             runtime,
+            appended: None,
             read_faults: 0,
             write_faults: 0,
         }
     }
 }
 
-impl<R: FileAccess + Drop> Files for DirFiles<R> {
+impl<R: FileAccess + AllocGlobal + Drop> Files for DirFiles<R> {
     ghost held = { λ _. None };
 
     ghost read_faults = { dir_files_read_faults };
@@ -187,29 +205,32 @@ impl<R: FileAccess + Drop> Files for DirFiles<R> {
     }
 
     /// Makes the file, in a folder that is there, and empties it. Each error of the system is a
-    /// fault.
+    /// fault. The file that was last appended to is closed first.
     fn start(&mut self, name: &str) -> Result<(), OutFault>
         ensures cause { HasCause (dir_files_write_faults self.old) (dir_files_write_faults self.new) result }
         ensures never_starved { IsErrOf result NoMemory → ⊥ }
         ensures count { CountsFailed (dir_files_write_faults self.old) (dir_files_write_faults self.new) result }
         ensures other_count { dir_files_read_faults self.new ≡ dir_files_read_faults self.old }
     {
+        self.appended = None;
         match start_file(&self.runtime, name) {
             Ok(()) => Ok(()),
             Err(_) => Err(count_fault(&mut self.write_faults)),
         }
     }
 
-    /// Opens the file, which has to be there, and writes at its end until the whole piece is
-    /// written. Each error of the system is a fault, but that of a signal, after which it writes
-    /// on. A write that takes nothing of what is left is a fault too.
+    /// Writes at the file's end until the whole piece is written. The file that was last appended
+    /// to is still open: its name goes on meaning that very file, also where it was renamed or
+    /// removed. Another is opened, and has to be there. Each error of the system is a fault, but
+    /// that of a signal, after which it writes on. A write that takes nothing of what is left is a
+    /// fault too.
     fn append(&mut self, name: &str, piece: &[u8]) -> Result<(), OutFault>
         ensures cause { HasCause (dir_files_write_faults self.old) (dir_files_write_faults self.new) result }
         ensures never_starved { IsErrOf result NoMemory → ⊥ }
         ensures count { CountsFailed (dir_files_write_faults self.old) (dir_files_write_faults self.new) result }
         ensures other_count { dir_files_read_faults self.new ≡ dir_files_read_faults self.old }
     {
-        match append_to_file(&self.runtime, name, piece) {
+        match append_to_file(&self.runtime, &mut self.appended, name, piece) {
             Ok(()) => Ok(()),
             Err(_) => Err(count_fault(&mut self.write_faults)),
         }

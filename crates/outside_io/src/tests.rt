@@ -280,20 +280,24 @@ fn the_files_of_the_system_are_read_by_path(rt: HostRuntime) -> Result<(), Fail>
 fn the_files_of_the_system_are_written_by_path(rt: HostRuntime) -> Result<(), Fail> {
     fs::create_dir(&rt, "written")?;
     let mut files = DirFiles::new(&rt);
-    let rows: [(&str, Option<&[u8]>, Option<&[u8]>); 7] = [
+    let rows: [(&str, Option<&[u8]>, Option<&[u8]>); 11] = [
         ("written/a", None, Some(b"")),
         ("written/a", Some(b"012"), Some(b"012")),
         ("written/a", Some(b""), Some(b"012")),
         ("written/a", Some(b"34"), Some(b"01234")),
         ("written/b", None, Some(b"")),
-        ("written/b", Some(b"z"), Some(b"z")),
+        ("written/a", Some(b"5"), Some(b"012345")),
+        ("written/b", Some(b"y"), Some(b"y")),
+        ("written/a", Some(b"6"), Some(b"0123456")),
+        ("written/b", Some(b"z"), Some(b"yz")),
         ("written/a", None, Some(b"")),
+        ("written/a", Some(b"7"), Some(b"7")),
     ];
     for (name, piece, held) in rows {
         expect_change(&rt, &mut files, name, piece, Ok(()));
         expect_read_at(&rt, &mut files, name, 0, 8, held);
     }
-    expect_read_at(&rt, &mut files, "written/b", 0, 8, Some(b"z"));
+    expect_read_at(&rt, &mut files, "written/b", 0, 8, Some(b"yz"));
     assert_eq!(rt; (files.read_faults, files.write_faults), (0, 0));
     let failing: [(&str, Option<&[u8]>); 5] = [
         ("absent/a", None),
@@ -309,5 +313,30 @@ fn the_files_of_the_system_are_written_by_path(rt: HostRuntime) -> Result<(), Fa
     fs::remove_file(&rt, "written/a")?;
     fs::remove_file(&rt, "written/b")?;
     fs::remove_dir(&rt, "written")?;
+    Ok(())
+}
+
+#[test]
+fn the_file_that_was_last_appended_to_stays_open(rt: HostRuntime) -> Result<(), Fail> {
+    fs::create_dir(&rt, "kept")?;
+    let mut files = DirFiles::new(&rt);
+    expect_change(&rt, &mut files, "kept/a", None, Ok(()));
+    expect_change(&rt, &mut files, "kept/a", Some(b"01"), Ok(()));
+    fs::rename(&rt, "kept/a", "kept/b")?;
+    expect_change(&rt, &mut files, "kept/a", Some(b"23"), Ok(()));
+    expect_read_at(&rt, &mut files, "kept/b", 0, 8, Some(b"0123"));
+    // Another file is opened, and then that of the first name is no longer there.
+    expect_change(&rt, &mut files, "kept/b", Some(b"4"), Ok(()));
+    expect_change(&rt, &mut files, "kept/a", Some(b"5"), Err(OutFault::Failed));
+    expect_change(&rt, &mut files, "kept/b", Some(b"6"), Ok(()));
+    // A file that is started anew is opened anew.
+    fs::rename(&rt, "kept/b", "kept/a")?;
+    expect_change(&rt, &mut files, "kept/b", None, Ok(()));
+    expect_change(&rt, &mut files, "kept/b", Some(b"7"), Ok(()));
+    expect_read_at(&rt, &mut files, "kept/a", 0, 8, Some(b"012346"));
+    expect_read_at(&rt, &mut files, "kept/b", 0, 8, Some(b"7"));
+    fs::remove_file(&rt, "kept/a")?;
+    fs::remove_file(&rt, "kept/b")?;
+    fs::remove_dir(&rt, "kept")?;
     Ok(())
 }
