@@ -29,14 +29,21 @@ pub struct StdSink<W> {
     faults: u64,
 }
 
+// A file that is open to be appended to, and the name that it was opened by, or none where there
+// was no memory for it.
+#[derive(Drop)]
+struct KeptFile<F> {
+    name: Option<String>,
+    file: F,
+}
+
 /// The files of the system, by the runtime's file access. A name is a path as given. A path that
 /// cannot be opened is a fault, and so is one with a zero byte or one of a folder. The file that
-/// was last appended to stays open until another is appended to, one is started or a write fails.
+/// was last started or appended to stays open until another is, or a call that writes fails.
 #[derive(Drop)]
 pub struct DirFiles<R: FileAccess> {
     runtime: R,
-    // The file that was last appended to, with the name it was opened by.
-    appended: Option<(String, R::File)>,
+    kept: Option<KeptFile<R::File>>,
     pub(crate) read_faults: u64,
     pub(crate) write_faults: u64,
 }
@@ -127,29 +134,46 @@ fn read_file<R: FileAccess>(runtime: &R, path: &str, at: u64, buf: &mut [u8]) ->
     fill(&mut file, buf)
 }
 
-// Makes a file where there is none, and empties it.
-fn start_file<R: FileAccess>(runtime: &R, path: &str) -> io::Result<()> {
-    fs::create(runtime, path)?;
-    Ok(())
+impl<F> KeptFile<F> {
+    fn has_name(&self, path: &str) -> bool {
+        matches!(&self.name, Some(name) if name.as_str() == path)
+    }
 }
 
-// Writes the whole piece at the end of the kept file, where it has this name, or else of a file
-// that is there. It is then kept, unless there is no memory for its name.
+// Opens a file that is there, to write at its end. There may be no memory for its name.
+fn open_to_append<R: FileAccess + AllocGlobal>(
+    runtime: &R,
+    path: &str,
+) -> io::Result<KeptFile<R::File>> {
+    let file = OpenOptions::new().append(true).open(runtime, path)?;
+    let name = String::from_str(runtime.alloc(), path).ok();
+    Ok(KeptFile { name, file })
+}
+
+// Makes a file where there is none, empties it, and opens it to append to. It stays open in between,
+// so that the reader of a pipe sees no end.
+fn start_file<R: FileAccess + AllocGlobal>(
+    runtime: &R,
+    path: &str,
+) -> io::Result<KeptFile<R::File>> {
+    let _emptied = fs::create(runtime, path)?;
+    open_to_append(runtime, path)
+}
+
+// Writes the whole piece at the end of the kept file, where that has this name, or else of a file
+// that is there, which is then kept in its place. After an error none is kept.
 fn append_to_file<R: FileAccess + AllocGlobal>(
     runtime: &R,
-    kept: &mut Option<(String, R::File)>,
+    kept: &mut Option<KeptFile<R::File>>,
     path: &str,
     piece: &[u8],
 ) -> io::Result<()> {
-    let (name, mut file) = match kept.take() {
-        Some((name, file)) if name.as_str() == path => (Some(name), file),
-        _ => (
-            String::from_str(runtime.alloc(), path).ok(),
-            OpenOptions::new().append(true).open(runtime, path)?,
-        ),
+    let mut last = match kept.take() {
+        Some(last) if last.has_name(path) => last,
+        _ => open_to_append(runtime, path)?,
     };
-    write_whole(&mut file, piece)?;
-    *kept = name.map(|name| (name, file));
+    write_whole(&mut last.file, piece)?;
+    *kept = Some(last);
     Ok(())
 }
 
@@ -162,7 +186,7 @@ impl<R: FileAccess + AllocGlobal + Drop> DirFiles<R> {
     {
         DirFiles {
             runtime,
-            appended: None,
+            kept: None,
             read_faults: 0,
             write_faults: 0,
         }
@@ -204,33 +228,36 @@ impl<R: FileAccess + AllocGlobal + Drop> Files for DirFiles<R> {
         }
     }
 
-    /// Makes the file, in a folder that is there, and empties it. Each error of the system is a
-    /// fault. The file that was last appended to is closed first.
+    /// Makes the file, in a folder that is there, empties it, and opens it to be appended to. Each
+    /// error of the system is a fault.
     fn start(&mut self, name: &str) -> Result<(), OutFault>
         ensures cause { HasCause (dir_files_write_faults self.old) (dir_files_write_faults self.new) result }
         ensures never_starved { IsErrOf result NoMemory → ⊥ }
         ensures count { CountsFailed (dir_files_write_faults self.old) (dir_files_write_faults self.new) result }
         ensures other_count { dir_files_read_faults self.new ≡ dir_files_read_faults self.old }
     {
-        self.appended = None;
+        self.kept = None;
         match start_file(&self.runtime, name) {
-            Ok(()) => Ok(()),
+            Ok(file) => {
+                self.kept = Some(file);
+                Ok(())
+            }
             Err(_) => Err(count_fault(&mut self.write_faults)),
         }
     }
 
-    /// Writes at the file's end until the whole piece is written. The file that was last appended
-    /// to is still open: its name goes on meaning that very file, also where it was renamed or
-    /// removed. Another is opened, and has to be there. Each error of the system is a fault, but
-    /// that of a signal, after which it writes on. A write that takes nothing of what is left is a
-    /// fault too.
+    /// Writes at the file's end until the whole piece is written. The name of the file that was last
+    /// started or appended to stands for that file, which is still open, also where it was renamed
+    /// or removed. Another file is opened, and has to be there. Each error of the system is a fault,
+    /// but that of a signal, after which it writes on. A write that takes nothing of what is left is
+    /// a fault too.
     fn append(&mut self, name: &str, piece: &[u8]) -> Result<(), OutFault>
         ensures cause { HasCause (dir_files_write_faults self.old) (dir_files_write_faults self.new) result }
         ensures never_starved { IsErrOf result NoMemory → ⊥ }
         ensures count { CountsFailed (dir_files_write_faults self.old) (dir_files_write_faults self.new) result }
         ensures other_count { dir_files_read_faults self.new ≡ dir_files_read_faults self.old }
     {
-        match append_to_file(&self.runtime, &mut self.appended, name, piece) {
+        match append_to_file(&self.runtime, &mut self.kept, name, piece) {
             Ok(()) => Ok(()),
             Err(_) => Err(count_fault(&mut self.write_faults)),
         }

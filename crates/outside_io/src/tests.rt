@@ -317,26 +317,27 @@ fn the_files_of_the_system_are_written_by_path(rt: HostRuntime) -> Result<(), Fa
 }
 
 #[test]
-fn the_file_that_was_last_appended_to_stays_open(rt: HostRuntime) -> Result<(), Fail> {
+fn the_file_that_was_last_written_stays_open(rt: HostRuntime) -> Result<(), Fail> {
     fs::create_dir(&rt, "kept")?;
     let mut files = DirFiles::new(&rt);
     expect_change(&rt, &mut files, "kept/a", None, Ok(()));
-    expect_change(&rt, &mut files, "kept/a", Some(b"01"), Ok(()));
     fs::rename(&rt, "kept/a", "kept/b")?;
+    expect_change(&rt, &mut files, "kept/a", Some(b"01"), Ok(()));
+    fs::rename(&rt, "kept/b", "kept/c")?;
     expect_change(&rt, &mut files, "kept/a", Some(b"23"), Ok(()));
-    expect_read_at(&rt, &mut files, "kept/b", 0, 8, Some(b"0123"));
+    expect_read_at(&rt, &mut files, "kept/c", 0, 8, Some(b"0123"));
     // Another file is opened, and then that of the first name is no longer there.
-    expect_change(&rt, &mut files, "kept/b", Some(b"4"), Ok(()));
+    expect_change(&rt, &mut files, "kept/c", Some(b"4"), Ok(()));
     expect_change(&rt, &mut files, "kept/a", Some(b"5"), Err(OutFault::Failed));
-    expect_change(&rt, &mut files, "kept/b", Some(b"6"), Ok(()));
+    expect_change(&rt, &mut files, "kept/c", Some(b"6"), Ok(()));
     // A file that is started anew is opened anew.
-    fs::rename(&rt, "kept/b", "kept/a")?;
-    expect_change(&rt, &mut files, "kept/b", None, Ok(()));
-    expect_change(&rt, &mut files, "kept/b", Some(b"7"), Ok(()));
+    fs::rename(&rt, "kept/c", "kept/a")?;
+    expect_change(&rt, &mut files, "kept/c", None, Ok(()));
+    expect_change(&rt, &mut files, "kept/c", Some(b"7"), Ok(()));
     expect_read_at(&rt, &mut files, "kept/a", 0, 8, Some(b"012346"));
-    expect_read_at(&rt, &mut files, "kept/b", 0, 8, Some(b"7"));
+    expect_read_at(&rt, &mut files, "kept/c", 0, 8, Some(b"7"));
     fs::remove_file(&rt, "kept/a")?;
-    fs::remove_file(&rt, "kept/b")?;
+    fs::remove_file(&rt, "kept/c")?;
     fs::remove_dir(&rt, "kept")?;
     Ok(())
 }
