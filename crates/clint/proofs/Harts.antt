@@ -4,7 +4,6 @@ use Rattle.std.specs.Option.{option_map_or}
 use Rattle.std.proofs.lemmas.List.{length-set}
 use Rattle.clint.specs.State.{ClintRegisters, hart_count}
 use Rattle.clint.specs.Access.{stored, written}
-use Rattle.clint.specs.Layout.{register_at}
 use Rattle.clint.specs.declared.registers.Register.{Register}
 use Rattle.clint.specs.declared.registers.Register.TheVariants.{Msip, Mtimecmp, Mtime}
 

@@ -1,5 +1,5 @@
 -- What loads give and leave, and what stores leave and send.
-use Rattle.std.specs.Prelude.{◌+◌, ◌*◌, ◌%◌, ◌^◌, ℕ, Bool, ◌&&◌, nat_le, if◌then◌else◌, Option, List, [], ◌∷◌, length, drop, slice_index}
+use Rattle.std.specs.Prelude.{◌+◌, ◌*◌, ◌%◌, ◌^◌, ℕ, ◌&&◌, nat_le, if◌then◌else◌, Option, List, [], ◌∷◌, length, drop, slice_index}
 use Rattle.std.specs.Option.{option_map, option_map_or}
 use Rattle.guest_ram.specs.Bytes.{has_part, part_of}
 use Rattle.console.specs.State.{ConsoleRegisters, entered, has_flag, is_waiting, loop_flag}

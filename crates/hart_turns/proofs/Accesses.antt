@@ -1,5 +1,5 @@
 -- One step of the machine, by what the step of its core says.
-use Rattle.std.proofs.Common.{◌≡◌, ℕ, ◌+◌, ◌*◌, ◌≤◌, List, [], ◌∷◌, ◌++◌, length, refl, ap, sym, ◌∙◌, subst, arith}
+use Rattle.std.proofs.Common.{◌≡◌, ℕ, ◌+◌, ◌≤◌, List, [], ◌∷◌, ◌++◌, length, refl, ap, sym, ◌∙◌, subst, arith}
 use Rattle.std.proofs.lemmas.List.{append-nil, length-append}
 use Rattle.board_bus.specs.Board.{hart_count}
 use Rattle.board_bus.specs.Laws.{LoadKeepsHarts, SendsAtMost, StoreKeepsHarts}
@@ -11,7 +11,7 @@ use Rattle.hart_turns.specs.declared.outside.Outside.{Outside}
 use Rattle.hart_turns.specs.declared.running.Running.{Running}
 use Rattle.hart_turns.specs.Gives.{board_after, board_gives, sent_by}
 use Rattle.hart_turns.specs.Kept.{AfterSteps, outside_loaded, outside_stored, progress_of}
-use Rattle.hart_turns.specs.Turn.{Progress, after_answer, one_step}
+use Rattle.hart_turns.specs.Turn.{after_answer, one_step}
 
 -- what a device access makes of what stands around the harts
 record Accessed (o new : Outside) (ram : List ℕ) (access : Access) : Type 0 where

@@ -9,16 +9,13 @@ use Rattle.csr_file.specs.View.{IsGiven, volatile_bits}
 use Rattle.csr_file.specs.declared.registers.Registers.{Registers}
 use Rattle.csr_file.proofs.LegalLaws.{and_all_bits, and_twice}
 use Rattle.board_bus.specs.Board.{BoardState, IsFit, live}
-use Rattle.board_bus.specs.Laws.{DrivesFourBits}
 use Rattle.board_bus.proofs.Loaded.{loads_fit_lem}
 use Rattle.board_bus.proofs.Signals.{drives_four_bits_lem}
 use Rattle.hart_step.specs.declared.hart.Hart.{Hart}
 use Rattle.hart_step.specs.Allowed.{IsAllowed}
 use Rattle.hart_step.specs.Harts.{hart_of, reset_hart}
-use Rattle.hart_turns.specs.Fit as machine
 use Rattle.hart_turns.specs.Gives.{board_gives, board_volatile}
 use Rattle.hart_turns.specs.Laws.{BoardIsAllowed}
-use Rattle.hart_turns.specs.Machine.{MachineState}
 use Rattle.hart_turns.proofs.Permitted.{permitted}
 
 -- ---- volatile registers

@@ -1,6 +1,5 @@
 -- One step after another.
-use Rattle.std.proofs.Common.{◌≡◌, ℕ, zero, suc, ◌+◌, ◌*◌, ◌≤◌, length, refl, ap, sym, ◌∙◌, subst, arith, add-one}
-use Rattle.std.proofs.lemmas.List.{append-nil}
+use Rattle.std.proofs.Common.{◌≡◌, ℕ, ◌+◌, ◌*◌, refl, ap, sym, ◌∙◌, subst, arith, add-one}
 use Rattle.hart_turns.specs.declared.running.Running.{Running}
 use Rattle.hart_turns.specs.Kept.{AfterSteps, KeepsForm, progress_of}
 use Rattle.hart_turns.specs.Turn.{Progress, all_steps, hart_steps, one_step}

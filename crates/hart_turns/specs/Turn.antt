@@ -1,9 +1,9 @@
 -- One turn of the machine: each hart in order of number makes its steps, then the host window is looked at, then an
 -- offered input byte is taken, and then the timer ticks.
-use Rattle.std.specs.Prelude.{◌≡◌, ℕ, zero, suc, ◌+◌, ◌*◌, ◌≤◌, List, [], ◌∷◌, ◌++◌, length, Option, Some, None, nat_lt, if◌then◌else◌, vec_capacity, vec_len}
+use Rattle.std.specs.Prelude.{ℕ, zero, suc, ◌+◌, List, [], ◌∷◌, ◌++◌, length, Option, Some, None, nat_lt, if◌then◌else◌}
 use Rattle.guest_ram.specs.Bytes.{number_at}
 use Rattle.console.specs.State.{queue_room}
-use Rattle.board_bus.specs.Board.{BoardState, entered, hart_count, ticked}
+use Rattle.board_bus.specs.Board.{BoardState, entered, ticked}
 use Rattle.board_bus.specs.Window.{host_says}
 use Rattle.board_bus.specs.declared.window.HostSays.{HostSays}
 use Rattle.board_bus.specs.declared.window.HostSays.TheVariants.{Nothing, End, Send, Bad}

@@ -1,13 +1,13 @@
 -- What a register answers to a load has as many bytes as were asked for.
-use Rattle.std.proofs.Common.{◌≡◌, ℕ, zero, suc, ◌+◌, ◌*◌, ◌-◌, ◌^◌, ◌<◌, ◌≤◌, ◌==◌, ◌&&◌, Bool, true, false, if◌then◌else◌, List, [], ◌∷◌, All, length, bit_and, Option, Some, None, unwrap_or, slice_index, refl, sym, ap, subst, ◌∙◌, arith}
+use Rattle.std.proofs.Common.{◌≡◌, ℕ, zero, suc, ◌+◌, ◌-◌, ◌^◌, ◌<◌, ◌≤◌, ◌==◌, Bool, true, false, if◌then◌else◌, List, [], ◌∷◌, All, Option, Some, None, unwrap_or, slice_index, refl, sym, subst, arith}
 use Rattle.std.specs.Option.{option_map}
 use Rattle.std.proofs.lemmas.List.Elements.{All-head, All-tail}
 use Rattle.std.proofs.lemmas.Bool.{eqb-true}
 use Rattle.std.proofs.lemmas.Nat.{and_le_r}
 use Rattle.plic.specs.State.{IsFit, IsWithinSources, PlicRegisters, context_count}
 use Rattle.plic.specs.Access.{loaded, value_of}
-use Rattle.plic.specs.Layout.{register_at, word_at}
-use Rattle.plic.specs.Claims.{claimed, is_pending, pending_word, preferred, priority_of}
+use Rattle.plic.specs.Layout.{word_at}
+use Rattle.plic.specs.Claims.{claimed, is_pending, preferred}
 use Rattle.plic.specs.declared.registers.Register.{Register}
 use Rattle.plic.specs.declared.registers.Register.TheVariants.{Priority, Pending, Enable, Threshold, Claim}
 

@@ -1,5 +1,5 @@
 -- The place of an address in its page.
-use Rattle.std.proofs.Common.{◌≡◌, ℕ, zero, suc, ◌+◌, ◌*◌, ◌%◌, ◌^◌, ◌≤◌, arith}
+use Rattle.std.proofs.Common.{◌≡◌, ℕ, zero, suc, ◌+◌, ◌*◌, ◌%◌, ◌≤◌, arith}
 use Rattle.rv_alu.specs.Arithmetic.{bits_of}
 
 -- a leaf of each level leaves the low 12 bits

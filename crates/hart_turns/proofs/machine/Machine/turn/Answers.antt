@@ -1,5 +1,5 @@
 -- A turn, by its progress and its end.
-use Rattle.std.proofs.Common.{◌≡◌, ap, sym, ◌∙◌, refl, arith}
+use Rattle.std.proofs.Common.{◌≡◌, ap, sym, ◌∙◌, arith}
 use Rattle.hart_turns.specs.contracts.machine.Machine.{the_view}
 use Rattle.hart_turns.specs.declared.machine.TurnEnd.TheVariants.{Goes, Ended, BadHost}
 use Rattle.hart_turns.specs.Kept.{MachineView, progress_of}

@@ -1,5 +1,5 @@
 -- The address keeps its place in the page.
-use Rattle.std.proofs.Common.{◌≡◌, ℕ, ◌+◌, ◌*◌, ◌%◌, ap, ◌∙◌}
+use Rattle.std.proofs.Common.{ℕ, ◌+◌, ◌*◌, ◌%◌, ap, ◌∙◌}
 use Rattle.sv39_walk.proofs.Places.{place_kept}
 use Rattle.sv39_walk.proofs.entry.Entry.address.Goals as goal
 
