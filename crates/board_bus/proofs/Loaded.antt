@@ -1,5 +1,5 @@
 -- What a register answers to a load has as many bytes as were asked for.
-use Rattle.std.proofs.Common.{◌≡◌, ℕ, zero, suc, ◌*◌, ◌^◌, ◌<◌, unwrap_or, arith}
+use Rattle.std.proofs.Common.{ℕ, zero, suc, ◌^◌, ◌<◌, unwrap_or, arith}
 use Rattle.clint.proofs.Loaded as clint
 use Rattle.plic.proofs.Loaded as plic
 use Rattle.console.proofs.Loaded as console

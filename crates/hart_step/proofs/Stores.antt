@@ -1,5 +1,5 @@
 -- A walker that was told of a store agrees with memory after it.
-use Rattle.std.proofs.Common.{◌≡◌, ℕ, ◌+◌, List, length, IsTrue, subst, sym}
+use Rattle.std.proofs.Common.{◌≡◌, ℕ, List, length, IsTrue, subst, sym}
 use Rattle.byteorder.specs.Endian.{little_bytes}
 use Rattle.byteorder.specs.Numbers.{length-bytes_low_first}
 use Rattle.guest_ram.specs.Bytes.{HasPart, has_part, with_part}

@@ -1,5 +1,5 @@
 -- A return from the handler goes back to where the trap came.
-use Rattle.std.proofs.Common.{◌≡◌, ℕ, ◌+◌, ◌-◌, ◌*◌, ◌/◌, ◌%◌, ◌^◌, ◌<◌, ◌==◌, if◌then◌else◌, Bool, true, false, not, bit_and, bit_or, refl, sym, ap, ◌∙◌, arith, lit≤}
+use Rattle.std.proofs.Common.{◌≡◌, ℕ, ◌+◌, ◌-◌, ◌*◌, ◌/◌, ◌%◌, ◌^◌, ◌<◌, ◌==◌, if◌then◌else◌, Bool, true, false, not, bit_and, refl, sym, ap, ◌∙◌, arith, lit≤}
 use Rattle.std.proofs.lemmas.Nat.{and_assoc, and_or_apart, or_comm}
 use Rattle.std.proofs.lemmas.Nat.Bits.{and_high, and_high_mask}
 use Rattle.std.proofs.lemmas.Bool.{cond_both, cond-false}
