@@ -4,6 +4,5 @@ pub mod Lists
 pub mod Stores
 pub mod Steps
 pub mod Causes
-pub mod Cuts
 pub mod Numbers
 pub mod Kept

@@ -21,20 +21,6 @@ mod mode;
 mod registers;
 mod stepping;
 mod system;
-#[cfg(test)]
-mod tests;
-#[cfg(test)]
-mod tests_atomic;
-#[cfg(test)]
-mod tests_devices;
-#[cfg(test)]
-mod tests_memory;
-#[cfg(test)]
-mod tests_registers;
-#[cfg(test)]
-mod tests_traps;
-#[cfg(test)]
-mod tests_words;
 mod zicsr;
 
 pub use answers::Answers;

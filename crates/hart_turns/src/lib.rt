@@ -9,6 +9,20 @@ mod outside;
 mod registers;
 mod running;
 #[cfg(test)]
+mod step_tests;
+#[cfg(test)]
+mod step_tests_atomic;
+#[cfg(test)]
+mod step_tests_devices;
+#[cfg(test)]
+mod step_tests_memory;
+#[cfg(test)]
+mod step_tests_registers;
+#[cfg(test)]
+mod step_tests_traps;
+#[cfg(test)]
+mod step_tests_words;
+#[cfg(test)]
 mod tests;
 
 pub use laws::board_is_allowed;

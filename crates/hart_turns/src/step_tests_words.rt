@@ -1,13 +1,13 @@
 //! Instructions that compute, load, store and jump, in machine mode.
 
-use crate::event::Priv;
-use crate::event::Priv::M;
-use crate::tests::Did::{Passed, Stored, Wrote};
-use crate::tests::{
+use crate::step_tests::Did::{Passed, Stored, Wrote};
+use crate::step_tests::{
     DATA, Did, Fixed, PLAIN, Row, Tried, WORD_AT, Word, counters, event_of, number_from, run,
     try_row, try_rows, try_word,
 };
 use guest_ram::BASE;
+use hart_step::Priv;
+use hart_step::Priv::M;
 use rv_alu::Mode;
 use std::alloc::AllocError;
 

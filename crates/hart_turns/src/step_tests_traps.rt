@@ -1,8 +1,8 @@
 //! Exceptions and interrupts, the handlers that they enter, and the returns.
 
-use crate::event::Priv::{M, S, U};
-use crate::tests::Did::{Interrupted, Passed, Raised, Wrote};
-use crate::tests::{PLAIN, Row, Start, counters, run};
+use crate::step_tests::Did::{Interrupted, Passed, Raised, Wrote};
+use crate::step_tests::{PLAIN, Row, Start, counters, run};
+use hart_step::Priv::{M, S, U};
 use std::alloc::AllocError;
 
 #[test]

@@ -1,9 +1,9 @@
 //! Accesses to control and status registers, and what each mode may do.
 
-use crate::event::Priv;
-use crate::event::Priv::{M, S, U};
-use crate::tests::Did::{Passed, Raised, Saw, Wrote};
-use crate::tests::{Before, Did, PLAIN, Row, counters, run, try_in};
+use crate::step_tests::Did::{Passed, Raised, Saw, Wrote};
+use crate::step_tests::{Before, Did, PLAIN, Row, counters, run, try_in};
+use hart_step::Priv;
+use hart_step::Priv::{M, S, U};
 use std::alloc::{AllocError, Global};
 use std::process::Abort;
 

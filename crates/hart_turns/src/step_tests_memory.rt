@@ -1,9 +1,11 @@
 //! Fetches, loads and stores: what answers them, and the exceptions where nothing does.
 
-use crate::event::Priv;
-use crate::event::Priv::{M, S};
-use crate::tests::Did::{Loaded, Passed, Raised, Stored, Updated, Wrote};
-use crate::tests::{Before, Did, PLAIN, Row, Word, counters, run, try_in, try_rows, with_data};
+use crate::step_tests::Did::{Loaded, Passed, Raised, Stored, Updated, Wrote};
+use crate::step_tests::{
+    Before, Did, PLAIN, Row, Word, counters, run, try_in, try_rows, with_data,
+};
+use hart_step::Priv;
+use hart_step::Priv::{M, S};
 use std::alloc::{AllocError, Global};
 use std::process::Abort;
 

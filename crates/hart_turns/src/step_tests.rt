@@ -2,17 +2,15 @@
 //! manual by tools/step_rows.py, with unbounded integers.
 
 ghost use Rattle.std.specs.Prelude.{◌≡◌, ◌+◌, ◌^◌, ◌-◌, bit_and, min};
+ghost use Rattle.guest_ram.specs.Bytes.{IsSize};
 ghost use Rattle.csr_file.specs.View.{volatile_bits};
 ghost use Rattle.trap_rules.specs.Interrupt.{may_be_taken, picked};
 ghost use Rattle.hart_step.specs.Effects.{low_bytes};
 
-use crate::access::low;
-use crate::answers::Answers;
-use crate::cores::Core;
-use crate::event::{Event, Priv, Put};
 use csr_file::CsrFile;
 use csr_file::numbers::{MCAUSE, MCYCLE, MEPC, MINSTRET, MIP, MSTATUS, MTVAL};
 use guest_ram::{BASE, GuestRam};
+use hart_step::{Answers, Core, Event, Priv, Put};
 use rv_alu::Mode;
 use std::alloc::{AllocError, Global};
 use std::process::Abort;
@@ -49,8 +47,21 @@ impl Fixed {
     }
 }
 
+/// The low `size` bytes of a word.
+fn low(size: u8, word: u64) -> u64
+    requires { IsSize size }
+    ensures { result ≡ low_bytes size word }
+{
+    match size {
+        1 => word % 0x100,
+        2 => word % 0x1_0000,
+        4 => word % 0x1_0000_0000,
+        _ => word,
+    }
+}
+
 /// The bits of a word that a register takes from its surroundings.
-#[tactic(auto, using(crate::proofs::Cuts::cut_within))]
+#[tactic(auto, using(csr_file::proofs::LegalLaws::and_twice))]
 fn cut(word: u64, num: u16) -> u64
     ensures value { result ≡ bit_and word (volatile_bits num) }
     ensures within { bit_and result (volatile_bits num) ≡ result }

@@ -1,13 +1,12 @@
 //! Atomic operations, and reservations of one hart and of two.
 
-use crate::cores::Core;
-use crate::event::Priv;
-use crate::event::Priv::M;
-use crate::tests::Did::{Holds, HoldsNothing, Passed, Raised, Stored, Updated, Wrote};
-use crate::tests::{
+use crate::step_tests::Did::{Holds, HoldsNothing, Passed, Raised, Stored, Updated, Wrote};
+use crate::step_tests::{
     Did, Fixed, Row, compare, core_of, memory_of, number_from, replay, run, with_data,
 };
 use guest_ram::BASE;
+use hart_step::Priv::M;
+use hart_step::{Core, Priv};
 use std::alloc::{AllocError, Global};
 use std::process::Abort;
 
