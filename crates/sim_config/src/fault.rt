@@ -22,7 +22,7 @@ pub enum ConfigFault {
     OutOfRange(Key),
     /// The text has more than 65,536 bytes: so many.
     TooLong(u64),
-    /// There was no memory. It may come at any place.
+    /// There was no memory. It may come for any text that is not too long.
     NoMemory,
 }
 

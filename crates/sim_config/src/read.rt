@@ -1,6 +1,6 @@
 // Reading the two texts.
 
-ghost use Rattle.std.specs.Prelude.{◌≡◌, ◌≢◌, ℕ, List, Some, None, IfOk, IfErr, OnOk, length};
+ghost use Rattle.std.specs.Prelude.{◌≡◌, ◌≢◌, ◌<◌, ℕ, List, Some, None, IfOk, IfErr, OnOk, IsErrOf, length};
 ghost use Rattle.serde_json.specs.Find.{as_object};
 ghost use Rattle.serde_json.specs.View.{view};
 ghost use Rattle.sim_config.specs.declared.fault.ConfigFault.TheVariants.{NoMemory};
@@ -55,6 +55,7 @@ fn read_checked(alloc: Global, form: Form, text: &[u8]) -> Result<Value, ConfigF
     ensures members { IfOk result (λ value. text_members text.now ≡ members_of (view value)) }
     ensures err { IfErr result (λ fault. fault ≢ NoMemory → text_fault form text.now ≡ Some fault) }
     ensures least { IfErr result (λ fault. (name : List ℕ) → fault ≡ ConfigFault.Unknown name → IsLeastUnlisted form (text_members text.now) name) }
+    ensures long { most_bytes < length text.now → IsErrOf result (ConfigFault.TooLong (length text.now)) }
 {
     if text.len() > MOST_BYTES {
         return Err(ConfigFault::TooLong(text.len() as u64));
@@ -70,6 +71,7 @@ pub fn read_config(alloc: Global, text: &[u8]) -> Result<Config, ConfigFault>
     ensures err { IfErr result (λ fault. fault ≢ NoMemory → config_of text.now ≡ Err fault) }
     ensures least { IfErr result (λ fault. (name : List ℕ) → fault ≡ ConfigFault.Unknown name → IsLeastUnlisted Form.Configuration (text_members text.now) name) }
     ensures ranges { IfOk result IsConfig }
+    ensures long { most_bytes < length text.now → IsErrOf result (ConfigFault.TooLong (length text.now)) }
 {
     let value = read_checked(alloc, Form::Configuration, text)?;
     Ok(Config {
@@ -87,6 +89,7 @@ pub fn read_meta(alloc: Global, text: &[u8]) -> Result<Meta, ConfigFault>
     ensures err { IfErr result (λ fault. fault ≢ NoMemory → meta_of text.now ≡ Err fault) }
     ensures least { IfErr result (λ fault. (name : List ℕ) → fault ≡ ConfigFault.Unknown name → IsLeastUnlisted Form.MetaText (text_members text.now) name) }
     ensures ranges { IfOk result IsMeta }
+    ensures long { most_bytes < length text.now → IsErrOf result (ConfigFault.TooLong (length text.now)) }
 {
     let value = read_checked(alloc, Form::MetaText, text)?;
     Ok(Meta {
