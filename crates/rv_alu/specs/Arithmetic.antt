@@ -1,6 +1,7 @@
 -- The values of the integer instructions, over whole numbers with sign and without bound.
 -- A register's value is a number a below 2 ^ 64; `signed 64 a` is the signed number that its bits stand for.
 use Rattle.std.specs.Prelude.{ℕ, ◌-◌, ◌*◌, ◌/◌, ◌%◌, ◌^◌, ◌==◌, Bool, not, ℤ, pos, negsuc, ◌+ℤ◌, ◌-ℤ◌, ◌*ℤ◌, int_lt, int_div, nat_lt, bit_and, bit_or, bit_xor, if◌then◌else◌}
+use Rattle.rv_alu.specs.Bits.{low_bytes}
 use Rattle.rv_alu.specs.declared.BinOp.{BinOp}
 use Rattle.rv_alu.specs.declared.MulOp.{MulOp}
 use Rattle.rv_alu.specs.declared.AmoOp.{AmoOp}
@@ -112,7 +113,7 @@ amo_at AmoOp.Maxu n x y = if nat_lt x y then y else x
 
 -- the value to store in `size` bytes, from the low `size` bytes of both, with zeros above
 abbrev pub amo_value_of : AmoOp → ℕ → ℕ → ℕ → ℕ
-amo_value_of op size old b = amo_at op (8 * size) (old % 2 ^ (8 * size)) (b % 2 ^ (8 * size))
+amo_value_of op size old b = amo_at op (8 * size) (low_bytes size old) (low_bytes size b)
 
 -- ---- Unprivileged ISA, "Conditional Branches"
 

@@ -1,1 +1,3 @@
 pub mod Arithmetic
+pub mod Bits
+pub mod Modes

@@ -1,6 +1,6 @@
-//! The arithmetic of the integer instructions of RV64: plain calls on 64-bit words that allocate
-//! nothing and refuse nothing. What each gives is defined over whole numbers in
-//! `specs/Arithmetic.antt`.
+//! The arithmetic of the integer instructions of RV64, bits and bytes of words, and the privilege modes:
+//! plain calls on 64-bit words that allocate nothing and refuse nothing. What each gives is defined over
+//! whole numbers in `specs/Arithmetic.antt`, `specs/Bits.antt` and `specs/Modes.antt`.
 #![tactic(auto)]
 
 mod product;
@@ -9,8 +9,10 @@ mod quotient;
 mod tests;
 mod word;
 
-ghost use Rattle.std.specs.Prelude.{◌≡◌, ◌+◌, ◌%◌, ◌^◌, ◌≤◌, ◌⊎◌};
+ghost use Rattle.std.specs.Prelude.{◌≡◌, ◌+◌, ◌%◌, ◌^◌, ◌<◌, ◌≤◌, ◌⊎◌};
 ghost use Rattle.rv_alu.specs.Arithmetic.{alu_of, amo_at, amo_value_of, bits_of, is_taken, mul_div_of, sign_extended};
+ghost use Rattle.rv_alu.specs.Bits.{has_bit, low_bytes};
+ghost use Rattle.rv_alu.specs.Modes.{mode_of};
 
 use product::{high_mixed, high_signed, high_unsigned};
 use quotient::{divide, divide_unsigned, remain, remain_unsigned};
@@ -103,6 +105,37 @@ pub fn bits(w: u64, lo: u8, n: u8) -> u64
         return 0;
     }
     (w >> lo) & (u64::MAX >> (64 - n))
+}
+
+/// Whether bit `n` of the word is 1.
+pub fn has_bit(w: u64, n: u8) -> bool
+    requires { n < 64 }
+    ensures { result ≡ has_bit w n }
+{
+    w >> n & 1 == 1
+}
+
+/// The number that the low `size` bytes of a value hold.
+pub fn low_bytes(size: u8, value: u64) -> u64
+    ensures value { result ≡ low_bytes size value }
+    ensures fits { result < 256 ^ size }
+{
+    if size < 8 {
+        bits(value, 0, 8 * size)
+    } else {
+        value
+    }
+}
+
+/// The mode of a number in the fields MPP and prv, which never keep 2.
+pub fn mode_of(number: u64) -> Mode
+    ensures { result ≡ mode_of number }
+{
+    match number {
+        3 => Mode::M,
+        1 => Mode::S,
+        _ => Mode::U,
+    }
 }
 
 /// The low `n` bits of `v`, with the sign that they have as a two's-complement number, as 64 bits.

@@ -305,5 +305,43 @@ fn fields_and_signs_of_fields(rt: HostRuntime) {
         assert!(rt; 1 <= n && n <= 64);
         assert_eq!(rt; sext(v, n), want, "value {v} of {n} bits");
     }
+}
+
+#[test]
+fn single_bits_and_low_bytes(rt: HostRuntime) {
+    for (w, n, want) in [
+        (5, 0, true),
+        (5, 1, false),
+        (5, 2, true),
+        (0x8000000000000000, 63, true),
+        (0x7fffffffffffffff, 63, false),
+    ] {
+        assert!(rt; n < 64);
+        assert_eq!(rt; has_bit(w, n), want, "bit {n} of {w}");
+    }
+    for (size, want) in [
+        (0, 0),
+        (1, 0x88),
+        (2, 0x7788),
+        (4, 0x55667788),
+        (7, 0x22334455667788),
+        (8, 0x1122334455667788),
+        (255, 0x1122334455667788u64),
+    ] {
+        assert_eq!(rt; low_bytes(size, 0x1122334455667788), want, "{size} bytes");
+    }
+}
+
+#[test]
+fn modes_have_their_numbers(rt: HostRuntime) {
     assert_eq!(rt; (Mode::U as u8, Mode::S as u8, Mode::M as u8), (0, 1, 3));
+    for (number, want) in [
+        (0, Mode::U),
+        (1, Mode::S),
+        (2, Mode::U),
+        (3, Mode::M),
+        (7, Mode::U),
+    ] {
+        assert_eq!(rt; mode_of(number), want, "mode {number}");
+    }
 }
