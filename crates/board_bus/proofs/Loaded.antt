@@ -1,5 +1,6 @@
 -- What a register answers to a load has as many bytes as were asked for.
-use Rattle.std.proofs.Common.{ℕ, zero, suc, ◌^◌, ◌<◌, unwrap_or, arith}
+use Rattle.std.proofs.Common.{ℕ, ◌^◌, ◌<◌, unwrap_or}
+use Rattle.rv_alu.proofs.Bytes.{some_power}
 use Rattle.clint.proofs.Loaded as clint
 use Rattle.plic.proofs.Loaded as plic
 use Rattle.console.proofs.Loaded as console
@@ -9,10 +10,6 @@ use Rattle.board_bus.specs.Laws.{LoadsFit}
 use Rattle.board_bus.specs.Listed.{place_of}
 use Rattle.board_bus.specs.declared.place.Place.{Place}
 use Rattle.board_bus.specs.declared.place.Place.TheVariants.{Clint, Plic, Console, Nowhere}
-
-some_power : (n : ℕ) → 0 < 256 ^ n
-some_power zero = omega arith
-some_power (suc n) = let less = some_power n in omega (arith, less)
 
 in_place : (b : BoardState) → IsFit b → (size : ℕ) (place : Place) → unwrap_or (loaded_in b size place) 0 < 256 ^ size
 in_place b fit size (Clint off) = clint.loads_fit b.clint fit.clint off size

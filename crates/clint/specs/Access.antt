@@ -1,14 +1,11 @@
 -- What loads give and what stores leave.
-use Rattle.std.specs.Prelude.{◌%◌, ◌^◌, ℕ, Option, slice_index, slice_set}
+use Rattle.std.specs.Prelude.{◌%◌, ℕ, Option, slice_index, slice_set}
 use Rattle.std.specs.Option.{option_map, option_map_or}
+use Rattle.rv_alu.specs.Bits.{low_bytes}
 use Rattle.clint.specs.State.{ClintRegisters, hart_count}
 use Rattle.clint.specs.Layout.{register_at}
 use Rattle.clint.specs.declared.registers.Register.{Register}
 use Rattle.clint.specs.declared.registers.Register.TheVariants.{Msip, Mtimecmp, Mtime}
-
--- the number that the low `size` bytes of a value hold
-abbrev pub low_bytes : ℕ → ℕ → ℕ
-low_bytes size value = value % 256 ^ size
 
 -- the value of a register
 abbrev pub value_of : ClintRegisters → Register → ℕ

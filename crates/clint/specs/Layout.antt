@@ -1,15 +1,9 @@
 -- Where the registers stand in the block (SiFive FU540-C000 Manual, "Core-Local Interruptor (CLINT)").
-use Rattle.std.specs.Prelude.{◌+◌, ◌-◌, ◌*◌, ◌/◌, ◌%◌, ◌<◌, ℕ, Bool, ◌==◌, ◌&&◌, nat_le, nat_lt, if◌then◌else◌, Option, None, Some, is_some}
+use Rattle.std.specs.Prelude.{◌<◌, ℕ, Bool, ◌==◌, if◌then◌else◌, Option, None, Some, is_some}
 use Rattle.std.specs.Option.{option_map}
+use Rattle.device_rows.specs.Rows.{row_at}
 use Rattle.clint.specs.declared.registers.Register.{Register}
 use Rattle.clint.specs.declared.registers.Register.TheVariants.{Msip, Mtimecmp, Mtime}
-
--- the number of the register at offset `off`, in a row of `count` of them, one each `stride` bytes from `start` on
-unfoldable pub row_at : ℕ → ℕ → ℕ → ℕ → Option ℕ
-row_at start stride count off =
-    if nat_le start off && nat_lt off (start + stride * count) && ((off - start) % stride == 0)
-    then Some ((off - start) / stride)
-    else None
 
 -- the register of `size` bytes at offset `off` of a block for this many harts: msip from 0 on, 4 bytes for each
 -- hart, mtimecmp from 0x4000 on, 8 bytes for each hart, and mtime at 0xbff8, 8 bytes

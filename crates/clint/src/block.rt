@@ -7,6 +7,7 @@ ghost use Rattle.clint.specs.Layout.{IsOfHart, is_listed, size_of};
 ghost use Rattle.clint.specs.Access.{loaded, stored, value_of, written};
 
 use crate::registers::{Register, register_at};
+use rv_alu::low_bytes;
 use std::marker::Model;
 
 /// An access to no register: none with this offset and size is listed.
@@ -82,7 +83,7 @@ impl Clint {
     {
         match register_at(self.harts, off, size) {
             Some(register) => {
-                self.write(register, register.low_bytes(value));
+                self.write(register, low_bytes(size, value));
                 Ok(())
             }
             None => Err(Refused),

@@ -1,23 +1,13 @@
 -- What a register answers to a load has as many bytes as were asked for.
-use Rattle.std.proofs.Common.{◌≡◌, ℕ, zero, suc, ◌+◌, ◌*◌, ◌^◌, ◌<◌, ◌≤◌, ◌==◌, ◌&&◌, Bool, true, false, if◌then◌else◌, List, [], ◌∷◌, All, length, Some, None, unwrap_or, slice_index, refl, sym, subst, arith}
+use Rattle.std.proofs.Common.{◌≡◌, ℕ, ◌+◌, ◌*◌, ◌^◌, ◌<◌, ◌≤◌, ◌==◌, ◌&&◌, Bool, true, false, if◌then◌else◌, length, Some, None, unwrap_or, slice_index, refl, sym, subst, arith}
 use Rattle.std.specs.Option.{option_map}
-use Rattle.std.proofs.lemmas.List.Elements.{All-head, All-tail}
 use Rattle.std.proofs.lemmas.Bool.{and_parts, eqb-true}
+use Rattle.rv_alu.proofs.Bytes.{some_power}
+use Rattle.device_rows.proofs.Places.{at_place}
 use Rattle.console.specs.State.{ConsoleRegisters, IsFit, is_waiting}
 use Rattle.console.specs.Access.{loaded, value_of}
 use Rattle.console.specs.Layout.{register_at}
 use Rattle.console.specs.declared.registers.Register.TheVariants.{Data, Status, Ctrl, TxAddr, TxLen}
-
--- what holds of each element and of 0 holds at each place
-at_place : (P : ℕ → Type 0) (xs : List ℕ) (i : ℕ) → All P xs → P 0 → P (slice_index xs i)
-at_place P [] zero all none = none
-at_place P [] (suc i) all none = none
-at_place P (x ∷ xs) zero all none = All-head P x xs all
-at_place P (x ∷ xs) (suc i) all none = at_place P xs i (All-tail P x xs all) none
-
-some_power : (n : ℕ) → 0 < 256 ^ n
-some_power zero = omega arith
-some_power (suc n) = let less = some_power n in omega (arith, less)
 
 status_small : (b : Bool) (n : ℕ) → n ≤ 16 → 2 + (if b then 1 else 0) + 256 * n < 256 ^ 4
 status_small true n most = omega (arith, most)

@@ -1,15 +1,12 @@
 -- What loads give and leave, and what stores leave and send.
-use Rattle.std.specs.Prelude.{◌+◌, ◌*◌, ◌%◌, ◌^◌, ℕ, ◌&&◌, nat_le, if◌then◌else◌, Option, List, [], ◌∷◌, length, drop, slice_index}
+use Rattle.std.specs.Prelude.{◌+◌, ◌*◌, ◌%◌, ℕ, ◌&&◌, nat_le, if◌then◌else◌, Option, List, [], ◌∷◌, length, drop, slice_index}
 use Rattle.std.specs.Option.{option_map, option_map_or}
+use Rattle.rv_alu.specs.Bits.{low_bytes}
 use Rattle.guest_ram.specs.Bytes.{has_part, part_of}
 use Rattle.console.specs.State.{ConsoleRegisters, entered, has_flag, is_waiting, loop_flag}
 use Rattle.console.specs.Layout.{register_at}
 use Rattle.console.specs.declared.registers.Register.{Register}
 use Rattle.console.specs.declared.registers.Register.TheVariants.{Data, Status, Ctrl, TxAddr, TxLen}
-
--- the number that the low `size` bytes of a value hold
-abbrev pub low_bytes : ℕ → ℕ → ℕ
-low_bytes size value = value % 256 ^ size
 
 -- the greatest length of one send
 abbrev pub most_sent : ℕ

@@ -13,6 +13,7 @@ use crate::output::OutBuf;
 use crate::registers::{Register, register_at};
 use bitflags::Flags;
 use guest_ram::GuestRam;
+use rv_alu::low_bytes;
 use std::marker::Model;
 
 /// An access to no register: none with this offset and size is listed.
@@ -101,8 +102,9 @@ impl Console {
     {
         match register_at(off, size) {
             Some(register) => {
-                self.send(register, register.low_bytes(value), ram, out);
-                self.write(register, register.low_bytes(value));
+                let low = low_bytes(size, value);
+                self.send(register, low, ram, out);
+                self.write(register, low);
                 Ok(())
             }
             None => Err(Refused),

@@ -1,9 +1,8 @@
 //! Where the registers stand.
 #![tactic(auto, unfolding(crate::specs::Layout::register_at))]
 
-ghost use Rattle.std.specs.Prelude.{◌≡◌, ◌<◌, ◌^◌, IfSome};
+ghost use Rattle.std.specs.Prelude.{◌≡◌, IfSome};
 ghost use Rattle.console.specs.Layout.{is_listed, register_at, size_of};
-ghost use Rattle.console.specs.Access.{low_bytes};
 
 /// A register of the console.
 #[derive(Clone, Copy)]
@@ -35,18 +34,4 @@ pub fn listed(off: u64, size: u8) -> bool
     ensures { result ≡ is_listed off size }
 {
     register_at(off, size).is_some()
-}
-
-impl Register {
-    /// The number that the low bytes of a value hold, as many as the register has.
-    pub(crate) fn low_bytes(self, value: u64) -> u64
-        ensures value { result ≡ low_bytes (size_of self) value }
-        ensures fits { result < 256 ^ size_of self }
-    {
-        match self {
-            Register::Data => value % 0x100,
-            Register::Status | Register::Ctrl | Register::TxLen => value % 0x1_0000_0000,
-            Register::TxAddr => value,
-        }
-    }
 }

@@ -1,29 +1,16 @@
 -- What a register answers to a load has as many bytes as were asked for.
-use Rattle.std.proofs.Common.{◌≡◌, ℕ, zero, suc, ◌+◌, ◌-◌, ◌^◌, ◌<◌, ◌≤◌, ◌==◌, Bool, true, false, if◌then◌else◌, List, [], ◌∷◌, All, Option, Some, None, unwrap_or, slice_index, refl, sym, subst, arith}
+use Rattle.std.proofs.Common.{◌≡◌, ℕ, ◌+◌, ◌-◌, ◌^◌, ◌<◌, ◌≤◌, ◌==◌, Bool, true, false, if◌then◌else◌, Option, Some, None, unwrap_or, slice_index, refl, sym, subst, arith}
 use Rattle.std.specs.Option.{option_map}
-use Rattle.std.proofs.lemmas.List.Elements.{All-head, All-tail}
 use Rattle.std.proofs.lemmas.Bool.{eqb-true}
 use Rattle.std.proofs.lemmas.Nat.{and_le_r}
+use Rattle.rv_alu.proofs.Bytes.{some_power}
+use Rattle.device_rows.proofs.Places.{at_place}
 use Rattle.plic.specs.State.{IsFit, IsWithinSources, PlicRegisters, context_count}
 use Rattle.plic.specs.Access.{loaded, value_of}
 use Rattle.plic.specs.Layout.{word_at}
 use Rattle.plic.specs.Claims.{claimed, is_pending, preferred}
 use Rattle.plic.specs.declared.registers.Register.{Register}
 use Rattle.plic.specs.declared.registers.Register.TheVariants.{Priority, Pending, Enable, Threshold, Claim}
-
--- what holds of each element and of 0 holds at each place
-at_place : (P : ℕ → Type 0) (xs : List ℕ) (i : ℕ) → All P xs → P 0 → P (slice_index xs i)
-at_place P [] zero all none = none
-at_place P [] (suc i) all none = none
-at_place P (x ∷ xs) zero all none = All-head P x xs all
-at_place P (x ∷ xs) (suc i) all none = at_place P xs i (All-tail P x xs all) none
-
-some_power : (n : ℕ) → 0 < 256 ^ n
-some_power zero = omega arith
-some_power (suc n) = let less = some_power n in omega (arith, less)
-
-is_four : (size : ℕ) → (size == 4) ≡ true → size ≡ 4
-is_four size is = eqb-true size 4 is
 
 word_small : (first second : Bool) → (if first then 2 else 0) + (if second then 4 else 0) ≤ 6
 word_small false false = omega arith
@@ -62,7 +49,7 @@ word_fits r fit levels None = omega arith
 word_fits r fit levels (Some reg) = let small = value_small r fit levels reg in omega (arith, small)
 
 by_size : (r : PlicRegisters) → IsFit r → (levels size : ℕ) (four : Bool) (o : Option Register) → (size == 4) ≡ four → unwrap_or (option_map (value_of r levels) (if four then o else None)) 0 < 256 ^ size
-by_size r fit levels size true o is = subst (λ n. unwrap_or (option_map (value_of r levels) o) 0 < 256 ^ n) (sym (is_four size is)) (word_fits r fit levels o)
+by_size r fit levels size true o is = subst (λ n. unwrap_or (option_map (value_of r levels) o) 0 < 256 ^ n) (sym (eqb-true size 4 is)) (word_fits r fit levels o)
 by_size r fit levels size false o is = some_power size
 
 pub loads_fit : (r : PlicRegisters) → IsFit r → (off size levels : ℕ) → unwrap_or (loaded r off size levels) 0 < 256 ^ size

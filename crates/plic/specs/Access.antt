@@ -1,15 +1,12 @@
 -- What loads give and leave, and what stores leave.
-use Rattle.std.specs.Prelude.{◌-◌, ◌%◌, ◌^◌, ℕ, Option, bit_and, slice_index, slice_set}
+use Rattle.std.specs.Prelude.{◌-◌, ◌%◌, ℕ, Option, bit_and, slice_index, slice_set}
 use Rattle.std.specs.Option.{option_map, option_map_or}
+use Rattle.rv_alu.specs.Bits.{low_bytes}
 use Rattle.plic.specs.State.{PlicRegisters, context_count, source_bits}
 use Rattle.plic.specs.Layout.{register_at}
 use Rattle.plic.specs.Claims.{claimed, completed, pending_word, priority_of, with_served}
 use Rattle.plic.specs.declared.registers.Register.{Register}
 use Rattle.plic.specs.declared.registers.Register.TheVariants.{Priority, Pending, Enable, Threshold, Claim}
-
--- the number that the low `size` bytes of a value hold
-abbrev pub low_bytes : ℕ → ℕ → ℕ
-low_bytes size value = value % 256 ^ size
 
 -- what is read of a register under these levels of the sources
 abbrev pub value_of : PlicRegisters → ℕ → Register → ℕ

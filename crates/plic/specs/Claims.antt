@@ -1,11 +1,8 @@
 -- Pending sources, claims, completions and notifications (RISC-V Platform-Level Interrupt Controller
 -- Specification, "Interrupt Pending Bits", "Interrupt Claim Process", "Interrupt Completion").
-use Rattle.std.specs.Prelude.{◌≡◌, ◌≢◌, ◌+◌, ◌-◌, ◌/◌, ◌%◌, ◌^◌, ◌≤◌, ℕ, Bool, IsTrue, ◌==◌, ◌&&◌, ◌||◌, not, nat_lt, bit_and, bit_or, if◌then◌else◌, slice_index}
+use Rattle.std.specs.Prelude.{◌≡◌, ◌≢◌, ◌+◌, ◌-◌, ◌^◌, ◌≤◌, ℕ, Bool, IsTrue, ◌==◌, ◌&&◌, ◌||◌, not, nat_lt, bit_and, bit_or, if◌then◌else◌, slice_index}
+use Rattle.rv_alu.specs.Bits.{has_bit}
 use Rattle.plic.specs.State.{PlicRegisters, source_bits}
-
--- bit s of a number is set
-abbrev pub has_bit : ℕ → ℕ → Bool
-has_bit x s = x / 2 ^ s % 2 == 1
 
 -- source s is pending where its level is high now and it is not served; no level is remembered
 abbrev pub is_pending : PlicRegisters → ℕ → ℕ → Bool

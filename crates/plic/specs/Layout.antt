@@ -1,15 +1,9 @@
 -- Where the registers stand (RISC-V Platform-Level Interrupt Controller Specification, "Memory Map").
-use Rattle.std.specs.Prelude.{◌≡◌, ◌+◌, ◌-◌, ◌*◌, ◌/◌, ◌%◌, ◌<◌, ◌⊎◌, ℕ, Bool, ◌==◌, ◌&&◌, nat_le, nat_lt, if◌then◌else◌, Option, None, Some, is_some}
+use Rattle.std.specs.Prelude.{◌≡◌, ◌+◌, ◌%◌, ◌<◌, ◌⊎◌, ℕ, Bool, ◌==◌, nat_lt, if◌then◌else◌, Option, None, Some, is_some}
 use Rattle.std.specs.Option.{option_map}
+use Rattle.device_rows.specs.Rows.{row_at}
 use Rattle.plic.specs.declared.registers.Register.{Register}
 use Rattle.plic.specs.declared.registers.Register.TheVariants.{Priority, Pending, Enable, Threshold, Claim}
-
--- the number of the register at offset `off`, in a row of `count` of them, one each `stride` bytes from `start` on
-unfoldable pub row_at : ℕ → ℕ → ℕ → ℕ → Option ℕ
-row_at start stride count off =
-    if nat_le start off && nat_lt off (start + stride * count) && ((off - start) % stride == 0)
-    then Some ((off - start) / stride)
-    else None
 
 -- the register at offset `off` of a controller for this many contexts: the priorities of sources 1 and 2 at 4 and
 -- 8, the pending word at 0x1000, an enable word each 0x80 bytes from 0x2000 on, and each 0x1000 bytes from

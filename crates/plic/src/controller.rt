@@ -4,10 +4,11 @@ ghost use Rattle.std.specs.Prelude.{◌≡◌, ◌<◌, ◌≤◌, ◌^◌, ◌*
 ghost use Rattle.std.specs.Result.{result_ok};
 ghost use Rattle.plic.specs.State.{IsFit, context_count, reset_registers};
 ghost use Rattle.plic.specs.Layout.{IsOfContext, is_listed};
-ghost use Rattle.plic.specs.Claims.{IsBest, claimed, completed, has_bit, is_above, is_due, is_pending, is_ready, pending_word, preferred, priority_of, with_served};
+ghost use Rattle.plic.specs.Claims.{IsBest, claimed, completed, is_above, is_due, is_pending, is_ready, pending_word, preferred, priority_of, with_served};
 ghost use Rattle.plic.specs.Access.{after_load, after_reading, loaded, stored, value_of, written};
 
 use crate::registers::{Register, register_at};
+use rv_alu::has_bit;
 use std::marker::Model;
 
 /// An access to no register: none with this offset and size is listed.
@@ -42,14 +43,6 @@ impl Model for Plic {
     ghost view = { λ p. record { priority = p.priority; enable = take p.contexts p.enable; threshold = take p.contexts p.threshold; served = p.served } };
 
     ghost invariant = { λ p. IsKept p.contexts p.priority p.enable p.threshold p.served };
-}
-
-/// Whether bit `s` is set.
-fn has_bit(x: u8, s: u8) -> bool
-    requires { s < 8 }
-    ensures { result ≡ has_bit x s }
-{
-    (x >> s) % 2 == 1
 }
 
 impl Plic {
@@ -135,8 +128,8 @@ impl Plic {
         ensures contexts { context_count self.new ≡ context_count self.old }
     {
         match s {
-            1 if has_bit(self.enable[usize::from(c)], 1) => self.served &= 4,
-            2 if has_bit(self.enable[usize::from(c)], 2) => self.served &= 2,
+            1 if has_bit(u64::from(self.enable[usize::from(c)]), 1) => self.served &= 4,
+            2 if has_bit(u64::from(self.enable[usize::from(c)]), 2) => self.served &= 2,
             _ => {}
         }
     }
@@ -190,7 +183,7 @@ impl Plic {
         requires { s ≤ 2 }
         ensures { result ≡ is_pending self.now levels s }
     {
-        has_bit(levels, s) && !has_bit(self.served, s)
+        has_bit(u64::from(levels), s) && !has_bit(u64::from(self.served), s)
     }
 
     // Whether source `s` is pending and context `c` enables it.
@@ -199,7 +192,7 @@ impl Plic {
         requires source { s ≤ 2 }
         ensures { result ≡ is_ready self.now c levels s }
     {
-        self.is_pending(levels, s) && has_bit(self.enable[usize::from(c)], s)
+        self.is_pending(levels, s) && has_bit(u64::from(self.enable[usize::from(c)]), s)
     }
 
     // The priority of source `s`, and 0 for source 0.

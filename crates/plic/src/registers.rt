@@ -1,8 +1,10 @@
 //! Where the registers stand.
-#![tactic(auto, unfolding(crate::specs::Layout::row_at, crate::specs::Layout::word_at))]
+#![tactic(auto, unfolding(crate::specs::Layout::word_at))]
 
-ghost use Rattle.std.specs.Prelude.{◌≡◌, ◌<◌, ◌≤◌, ◌^◌, ◌*◌, ◌+◌, ◌%◌, IfSome, OnSome};
-ghost use Rattle.plic.specs.Layout.{IsOfContext, is_listed, register_at, row_at, word_at};
+ghost use Rattle.std.specs.Prelude.{◌≡◌, IfSome, OnSome};
+ghost use Rattle.plic.specs.Layout.{IsOfContext, is_listed, register_at, word_at};
+
+use device_rows::row_at;
 
 /// A register of the controller; the number is that of a source or of a context.
 #[derive(Clone, Copy)]
@@ -12,22 +14,6 @@ pub(crate) enum Register {
     Enable(u8),
     Threshold(u8),
     Claim(u8),
-}
-
-/// The number of the register at offset `off`, in a row of `count` of them, one each `stride` bytes
-/// from `start` on.
-fn row_at(start: u64, stride: u64, count: u8, off: u64) -> Option<u8>
-    requires stride { (0 < stride) × (stride < 2 ^ 16) }
-    requires start { start < 2 ^ 32 }
-    ensures value { result ≡ row_at start stride count off }
-    ensures inside { IfSome result (λ i. i < count) }
-{
-    let end = start + stride * u64::from(count);
-    if start <= off && off < end && (off - start) % stride == 0 {
-        Some(((off - start) / stride) as u8)
-    } else {
-        None
-    }
 }
 
 /// The register at offset `off` of a controller for this many contexts.
