@@ -10,14 +10,14 @@ ghost use Rattle.sv39_walk.specs.Remembered.{Agrees};
 use crate::exception::Exception;
 use crate::fit::see_bytes;
 use crate::hart::Hart;
-use crate::registers::{mstatus, satp};
+use crate::registers::satp;
 use byteorder::{ByteOrder, LittleEndian};
 use csr_file::masks::{MSTATUS_MXR, MSTATUS_SUM};
 use guest_ram::{BASE, GuestRam, PageTable};
 use rv_alu::Mode;
 use std::marker::Model;
 use sv39_walk::{Ctx, Kind, Walker, agrees_kept};
-use trap_rules::has;
+use trap_rules::{has, mstatus};
 
 /// The physical address of the first byte of the boot ROM.
 const ROM_BASE: u64 = 0x1_0000;

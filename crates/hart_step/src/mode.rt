@@ -5,10 +5,9 @@ ghost use Rattle.hart_step.specs.Effects.{is_open, may_fence_translation, may_re
 ghost use Rattle.hart_step.specs.Memory.{acting_mode, data_mode};
 
 use crate::hart::Hart;
-use crate::registers::mstatus;
 use csr_file::masks::{MSTATUS_MPRV, MSTATUS_TSR, MSTATUS_TVM, MSTATUS_TW};
 use rv_alu::Mode;
-use trap_rules::{has, machine_previous};
+use trap_rules::{has, machine_previous, mstatus};
 
 impl Hart {
     /// The mode in which the hart fetches and carries out instructions: debug mode counts as machine

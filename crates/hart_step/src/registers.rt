@@ -1,16 +1,10 @@
-// The control and status registers that a step looks at by name.
+// The register that a step looks at by name, beside `mstatus`.
 #![tactic(auto, unfolding(csr_file::specs::Legal::keeps_value, csr_file::specs::Legal::slots, csr_file::specs::Legal::kept_slots, csr_file::specs::Kept::kept_value, csr_file::specs::Numbers::is_listed))]
 
 ghost use Rattle.std.specs.Prelude.{◌≡◌};
 
 use csr_file::CsrFile;
-use csr_file::numbers::{MSTATUS, SATP};
-
-pub(crate) fn mstatus(csrs: &CsrFile) -> u64
-    ensures { result ≡ csrs.now.mstatus }
-{
-    csrs.kept(MSTATUS)
-}
+use csr_file::numbers::SATP;
 
 pub(crate) fn satp(csrs: &CsrFile) -> u64
     ensures { result ≡ csrs.now.satp }

@@ -6,7 +6,7 @@ ghost use Rattle.csr_file.specs.declared.registers.Registers.{Registers};
 ghost use Rattle.board_bus.specs.Board.{hart_count};
 ghost use Rattle.hart_turns.specs.Gives.{board_volatile};
 
-use crate::registers::{mcycle, mie};
+use crate::registers::mcycle;
 use board_bus::Board;
 use console::OutBuf;
 use csr_file::CsrFile;
@@ -14,7 +14,7 @@ use csr_file::numbers::{CYCLE, MCYCLE, TIME};
 use guest_ram::GuestRam;
 use hart_step::Answers;
 use rv_alu::Mode;
-use trap_rules::pick;
+use trap_rules::{mie, pick};
 
 /// The devices, and the console bytes that they have sent in this turn.
 #[derive(Drop)]

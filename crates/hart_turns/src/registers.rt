@@ -1,19 +1,13 @@
-// The registers that the board looks at.
+// The register that the board looks at, beside `mie`.
 #![tactic(auto, unfolding(csr_file::specs::Legal::keeps_value, csr_file::specs::Legal::slots, csr_file::specs::Legal::kept_slots, csr_file::specs::Kept::kept_value, csr_file::specs::Numbers::is_listed))]
 
 ghost use Rattle.std.specs.Prelude.{◌≡◌};
 
 use csr_file::CsrFile;
-use csr_file::numbers::{MCYCLE, MIE};
+use csr_file::numbers::MCYCLE;
 
 pub(crate) fn mcycle(csrs: &CsrFile) -> u64
     ensures { result ≡ csrs.now.mcycle }
 {
     csrs.kept(MCYCLE)
-}
-
-pub(crate) fn mie(csrs: &CsrFile) -> u64
-    ensures { result ≡ csrs.now.mie }
-{
-    csrs.kept(MIE)
 }

@@ -12,6 +12,7 @@ mod tests;
 
 pub use entry::enter;
 pub use interrupts::{may_take, pick};
+pub use registers::{mie, mstatus};
 pub use returns::{dret, mret, sret};
 pub use status::{has, machine_previous};
 

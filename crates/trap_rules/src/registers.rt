@@ -10,7 +10,8 @@ use csr_file::numbers::{
     MCAUSE, MEDELEG, MEPC, MIDELEG, MIE, MIP, MSTATUS, MTVAL, MTVEC, SCAUSE, SEPC, STVAL, STVEC,
 };
 
-pub(crate) fn mstatus(csrs: &CsrFile) -> u64
+/// The register `mstatus`.
+pub fn mstatus(csrs: &CsrFile) -> u64
     ensures { result ≡ csrs.now.mstatus }
 {
     csrs.kept(MSTATUS)
@@ -28,7 +29,8 @@ pub(crate) fn mideleg(csrs: &CsrFile) -> u64
     csrs.kept(MIDELEG)
 }
 
-pub(crate) fn mie(csrs: &CsrFile) -> u64
+/// The register `mie`.
+pub fn mie(csrs: &CsrFile) -> u64
     ensures { result ≡ csrs.now.mie }
 {
     csrs.kept(MIE)
