@@ -5,7 +5,8 @@ use Rattle.std.proofs.lemmas.Bool.{and_parts, not-true}
 use Rattle.rv_alu.specs.declared.Mode.{Mode}
 use Rattle.csr_file.specs.declared.registers.Registers.{Registers}
 use Rattle.csr_file.specs.Numbers.{is_read_only, is_user_counter, lowest_mode}
-use Rattle.csr_file.specs.Access.{allows, effective_mode, is_present, is_trapped, level, may_access, may_count}
+use Rattle.rv_alu.specs.Modes.{level}
+use Rattle.csr_file.specs.Access.{allows, effective_mode, is_present, is_trapped, may_access, may_count}
 
 -- the register is there, the mode reaches it, and it is not a write of a read-only register
 parts : (a b c d e : Bool) → (a && b && c && d && e) ≡ true → (a ≡ true) × (c ≡ true)

@@ -1,15 +1,11 @@
 -- Which accesses to a register are allowed (Privileged ISA, "CSR Address Mapping Conventions").
-use Rattle.std.specs.Prelude.{ℕ, ◌-◌, ◌/◌, ◌%◌, ◌^◌, ◌==◌, Bool, true, ◌&&◌, ◌||◌, not, nat_le, bit_and, is_some, if◌then◌else◌}
+use Rattle.std.specs.Prelude.{ℕ, ◌-◌, ◌==◌, Bool, true, ◌&&◌, ◌||◌, not, nat_le, bit_and, is_some, if◌then◌else◌}
+use Rattle.rv_alu.specs.Bits.{has_bit}
+use Rattle.rv_alu.specs.Modes.{level}
 use Rattle.rv_alu.specs.declared.Mode.{Mode}
 use Rattle.csr_file.specs.Bits.{mstatus_tvm}
 use Rattle.csr_file.specs.declared.registers.Registers.{Registers}
 use Rattle.csr_file.specs.Numbers.{csr_cycle, csr_satp, is_debug_number, is_listed, is_read_only, is_user_counter, lowest_mode}
-
--- the number of a mode (Privileged ISA, "Privilege Levels")
-abbrev pub level : Mode → ℕ
-level Mode.U = 0
-level Mode.S = 1
-level Mode.M = 3
 
 -- debug mode counts as machine mode (External Debug Support, "Debug Mode")
 abbrev pub effective_mode : Registers → Mode → Mode
@@ -21,7 +17,7 @@ is_present r number = is_listed number && (not (is_debug_number number) || is_so
 
 -- the bit of a counter in mcounteren or scounteren is set
 abbrev pub is_enabled : ℕ → ℕ → Bool
-is_enabled enable number = enable / 2 ^ (number - csr_cycle) % 2 == 1
+is_enabled enable number = has_bit enable (number - csr_cycle)
 
 -- machine mode may read each counter, supervisor mode those that mcounteren enables, and user mode those that
 -- mcounteren and scounteren enable (Privileged ISA, "Machine Counter-Enable Register", "Counter-Enable Register")

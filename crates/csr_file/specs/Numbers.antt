@@ -1,5 +1,6 @@
 -- Which numbers name a register (Privileged ISA, "CSR Listing").
-use Rattle.std.specs.Prelude.{ℕ, ◌/◌, ◌%◌, ◌^◌, ◌==◌, Bool, ◌&&◌, ◌||◌, nat_le}
+use Rattle.std.specs.Prelude.{ℕ, ◌/◌, ◌%◌, ◌^◌, ◌==◌, Bool, ◌&&◌, ◌||◌}
+use Rattle.rv_alu.specs.Bits.{is_between}
 
 -- supervisor registers, with 1 in bits 9:8
 abbrev pub csr_sstatus : ℕ
@@ -140,10 +141,6 @@ csr_mhartid = 0xf14
 
 abbrev pub csr_mconfigptr : ℕ
 csr_mconfigptr = 0xf15
-
--- number is one of the numbers from first to last
-abbrev pub is_between : ℕ → ℕ → ℕ → Bool
-is_between first last number = nat_le first number && nat_le number last
 
 -- the supervisor registers: sstatus, sie to scounteren, senvcfg, sscratch to sip, satp
 abbrev pub is_supervisor_number : ℕ → Bool

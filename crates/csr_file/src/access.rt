@@ -2,7 +2,8 @@
 #![tactic(auto)]
 
 ghost use Rattle.std.specs.Prelude.{◌≡◌, ◌≤◌, ◌||◌, not, nat_le};
-ghost use Rattle.csr_file.specs.Access.{allows, effective_mode, is_enabled, is_present, is_trapped, level, may_access, may_count};
+ghost use Rattle.rv_alu.specs.Modes.{level};
+ghost use Rattle.csr_file.specs.Access.{allows, effective_mode, is_enabled, is_present, is_trapped, may_access, may_count};
 ghost use Rattle.csr_file.specs.Numbers.{is_debug_number, is_identity_number, is_listed, is_machine_counter, is_machine_number, is_protection_number, is_supervisor_number, is_user_counter, is_read_only, lowest_mode};
 
 use crate::masks::MSTATUS_TVM;
@@ -13,7 +14,7 @@ use crate::numbers::{
     SIE, SIP, SSCRATCH, SSTATUS,
 };
 use crate::registers::Registers;
-use rv_alu::Mode;
+use rv_alu::{Mode, has_bit};
 
 fn names_supervisor(num: u16) -> bool
     ensures { result ≡ is_supervisor_number num }
@@ -83,7 +84,7 @@ fn enables(enable: u64, counter: u16) -> bool
     requires last { counter ≤ HPMCOUNTER_LAST }
     ensures { result ≡ is_enabled enable counter }
 {
-    enable >> (counter - CYCLE) & 1 == 1
+    has_bit(enable, (counter - CYCLE) as u8)
 }
 
 /// Whether a register's number says that it is read-only: bits 11:10 are 3.

@@ -9,8 +9,10 @@ use Rattle.rv_alu.specs.declared.BinOp.{BinOp}
 use Rattle.rv_alu.specs.declared.MulOp.{MulOp}
 use Rattle.rv_alu.specs.declared.CondOp.{CondOp}
 use Rattle.rv_alu.specs.Arithmetic.{alu_of, amo_value_of, is_taken, modulo, mul_div_of, sign_extended}
+use Rattle.rv_alu.specs.Bits.{low_bytes}
+use Rattle.rv_alu.specs.Modes.{level}
 use Rattle.rv_decode.specs.declared.Insn.{Insn}
-use Rattle.csr_file.specs.Access.{level, may_access}
+use Rattle.csr_file.specs.Access.{may_access}
 use Rattle.csr_file.specs.Bits.{all_bits, mstatus_tsr, mstatus_tvm, mstatus_tw}
 use Rattle.csr_file.specs.View.{base, is_volatile_number, view}
 use Rattle.csr_file.specs.Write.{written}
@@ -135,10 +137,6 @@ loads_at given n size extension len rd va hart memory =
 abbrev pub loads : Given → ℕ → ℕ → Extension → ℕ → ℕ → ℕ → ℤ → Hart → MemoryState → Effect
 loads given n size extension len rd rs1 imm hart memory =
     loads_at given n size extension len rd (offset_by (register hart rs1) imm) hart memory
-
--- the low size bytes of a value
-abbrev pub low_bytes : ℕ → ℕ → ℕ
-low_bytes size value = value % 2 ^ (8 * size)
 
 -- what is shown of a store of the low bytes of a value
 abbrev pub shows_store : ℕ → ℕ → ℕ → Done

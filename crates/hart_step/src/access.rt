@@ -1,9 +1,9 @@
 // Loads and stores.
 
-ghost use Rattle.std.specs.Prelude.{◌≡◌, ◌%◌, ◌^◌, ◌<◌, ◌≤◌, IfOk, length};
+ghost use Rattle.std.specs.Prelude.{◌≡◌, ◌%◌, ◌<◌, ◌≤◌, IfOk, length};
 ghost use Rattle.guest_ram.specs.Bytes.{IsSize};
 ghost use Rattle.hart_step.specs.Answers.{given_by};
-ghost use Rattle.hart_step.specs.Effects.{Leaves, extended_by, loads_at, low_bytes, shows_store, stores_at};
+ghost use Rattle.hart_step.specs.Effects.{Leaves, extended_by, loads_at, shows_store, stores_at};
 ghost use Rattle.hart_step.specs.Events.{IsDone, IsWritten};
 ghost use Rattle.hart_step.specs.Harts.{IsFitHart, StaysFit};
 
@@ -15,7 +15,7 @@ use crate::exception::Exception;
 use crate::hart::Hart;
 use crate::memory::Memory;
 use board_bus::listed;
-use rv_alu::sext;
+use rv_alu::{low_bytes, sext};
 use sv39_walk::Kind;
 
 /// Where an instruction stands: the number of its hart, how many harts the board has, and the word
@@ -131,22 +131,7 @@ pub(crate) fn stored(rd: Option<(u64, u64)>, at: u64, size: u8, value: u64) -> D
     ensures shown { result ≡ record (shows_store at size value) { rd = rd } }
     ensures formed { IsDone result }
 {
-    Done::stored(rd, Stored::new(at, size, low(size, value)))
-}
-
-/// The low `size` bytes of a value.
-#[inline(always)]
-pub(crate) fn low(size: u8, value: u64) -> u64
-    requires { IsSize size }
-    ensures value { result ≡ low_bytes size value }
-    ensures fits { result < 256 ^ size }
-{
-    match size {
-        1 => value % 0x100,
-        2 => value % 0x1_0000,
-        4 => value % 0x1_0000_0000,
-        _ => value,
-    }
+    Done::stored(rd, Stored::new(at, size, low_bytes(size, value)))
 }
 
 /// The body of [`store`], which stands once for all its instructions.
@@ -180,7 +165,7 @@ fn store_bytes<A: Answers>(
         return Ok(stored(None, at, size, value));
     }
     if listed(site.harts, at, size) {
-        answers.device_store(site.hart, at, size, low(size, value), memory.ram());
+        answers.device_store(site.hart, at, size, low_bytes(size, value), memory.ram());
         hart.pc = next;
         return Ok(stored(None, at, size, value));
     }

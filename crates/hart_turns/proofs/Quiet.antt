@@ -5,7 +5,7 @@ use Rattle.std.specs.Option.{option_or}
 use Rattle.std.proofs.lemmas.Bool.{cond-false}
 use Rattle.rv_alu.specs.declared.Mode.{Mode}
 use Rattle.csr_file.specs.declared.registers.Registers.{Registers}
-use Rattle.trap_rules.specs.Entry.{is_set}
+use Rattle.rv_alu.specs.Bits.{has_bit}
 use Rattle.trap_rules.specs.Interrupt.{interrupt_order, is_machine_open, is_supervisor_open, picked, traps_to_machine, traps_to_supervisor}
 use Rattle.trap_rules.proofs.PickLaws.{no_bit}
 
@@ -25,7 +25,7 @@ both_none false x y first second = ap (λ (o : Option ℕ). option_or o y) first
 pub nothing_enabled : (r : Registers) (mode : Mode) (live : ℕ) → r.mie ≡ 0 → picked r mode live ≡ None
 unfolding picked
 nothing_enabled r mode live none =
-    let disabled : (n : ℕ) → is_set r.mie n ≡ false = λ n. ap (λ (w : ℕ). is_set w n) none ∙ no_bit n in
+    let disabled : (n : ℕ) → has_bit r.mie n ≡ false = λ n. ap (λ (w : ℕ). has_bit w n) none ∙ no_bit n in
     both_none (is_some r.debug) _ _
-    (found_none (traps_to_machine r mode live) (λ n. blocked (is_machine_open r mode) (is_set r.mip n || is_set live n) (is_set r.mie n) (not (is_set r.mideleg n)) (disabled n)) interrupt_order)
-    (found_none (traps_to_supervisor r mode live) (λ n. blocked (is_supervisor_open r mode) (is_set r.mip n || is_set live n) (is_set r.mie n) (is_set r.mideleg n) (disabled n)) interrupt_order)
+    (found_none (traps_to_machine r mode live) (λ n. blocked (is_machine_open r mode) (has_bit r.mip n || has_bit live n) (has_bit r.mie n) (not (has_bit r.mideleg n)) (disabled n)) interrupt_order)
+    (found_none (traps_to_supervisor r mode live) (λ n. blocked (is_supervisor_open r mode) (has_bit r.mip n || has_bit live n) (has_bit r.mie n) (has_bit r.mideleg n) (disabled n)) interrupt_order)

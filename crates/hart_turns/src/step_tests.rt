@@ -2,16 +2,15 @@
 //! manual by tools/step_rows.py, with unbounded integers.
 
 ghost use Rattle.std.specs.Prelude.{◌≡◌, ◌+◌, ◌^◌, ◌-◌, bit_and, min};
-ghost use Rattle.guest_ram.specs.Bytes.{IsSize};
 ghost use Rattle.csr_file.specs.View.{volatile_bits};
 ghost use Rattle.trap_rules.specs.Interrupt.{may_be_taken, picked};
-ghost use Rattle.hart_step.specs.Effects.{low_bytes};
+ghost use Rattle.rv_alu.specs.Bits.{low_bytes};
 
 use csr_file::CsrFile;
 use csr_file::numbers::{MCAUSE, MCYCLE, MEPC, MINSTRET, MIP, MSTATUS, MTVAL};
 use guest_ram::{BASE, GuestRam};
 use hart_step::{Answers, Core, Event, Priv, Put};
-use rv_alu::Mode;
+use rv_alu::{Mode, low_bytes};
 use std::alloc::{AllocError, Global};
 use std::process::Abort;
 use trap_rules::pick;
@@ -47,19 +46,6 @@ impl Fixed {
     }
 }
 
-/// The low `size` bytes of a word.
-fn low(size: u8, word: u64) -> u64
-    requires { IsSize size }
-    ensures { result ≡ low_bytes size word }
-{
-    match size {
-        1 => word % 0x100,
-        2 => word % 0x1_0000,
-        4 => word % 0x1_0000_0000,
-        _ => word,
-    }
-}
-
 /// The bits of a word that a register takes from its surroundings.
 #[tactic(auto, using(csr_file::proofs::LegalLaws::and_twice))]
 fn cut(word: u64, num: u16) -> u64
@@ -92,7 +78,7 @@ impl Answers for Fixed {
 
     fn device_load(&mut self, _hart: u8, _at: u64, size: u8) -> u64 {
         self.loads = self.loads.saturating_add(1);
-        low(size, DEVICE)
+        low_bytes(size, DEVICE)
     }
 
     fn device_store(&mut self, _hart: u8, _at: u64, _size: u8, value: u64, _ram: &GuestRam) {

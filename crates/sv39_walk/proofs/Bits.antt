@@ -3,7 +3,7 @@ use Rattle.std.proofs.Common.{◌≡◌, ℕ, zero, suc, ◌+◌, ◌*◌, ◌/�
 use Rattle.std.specs.Prelude.{◌==◌}
 use Rattle.std.specs.Int.Bits.{and_zero_r}
 use Rattle.std.proofs.lemmas.Nat.{and_block, and_mask}
-use Rattle.sv39_walk.specs.Entry.{has_bit}
+use Rattle.rv_alu.specs.Bits.{has_bit}
 
 -- what a mask of one bit keeps
 kept : (n k : ℕ) → 0 < 2 ^ k → bit_and n (2 ^ k) ≡ n / 2 ^ k % 2 * 2 ^ k

@@ -2,14 +2,11 @@
 -- System", "Addressing and Memory Protection"), and the access that a leaf permits.
 use Rattle.std.specs.Prelude.{◌+◌, ◌*◌, ◌&&◌, ◌||◌, ◌==◌, ℕ, Bool, true, false, not}
 use Rattle.rv_alu.specs.Arithmetic.{bits_of}
+use Rattle.rv_alu.specs.Bits.{has_bit}
 use Rattle.rv_alu.specs.declared.Mode.{Mode}
 use Rattle.sv39_walk.specs.declared.Kind.{Kind}
 
 -- ---- the fields
-
--- the bit at a place
-abbrev pub has_bit : ℕ → ℕ → Bool
-has_bit entry place = bits_of entry place 1 == 1
 
 -- V, R, W, X, U, A and D
 abbrev pub is_valid : ℕ → Bool

@@ -3,11 +3,12 @@
 -- of a walk is the list of the addresses of the entries on it.
 use Rattle.std.specs.Prelude.{◌≡◌, ◌+◌, ◌-◌, ◌*◌, ◌<◌, ◌^◌, ◌==◌, ℕ, Bool, true, List, [], ◌∷◌, length, IsTrue, IsFalse, MatchBool, if◌then◌else◌}
 use Rattle.rv_alu.specs.Arithmetic.{bits_of}
+use Rattle.rv_alu.specs.Bits.{has_bit}
 use Rattle.rv_alu.specs.declared.Mode.{Mode}
 use Rattle.guest_ram.specs.Bytes.{HasPart, number_at}
 use Rattle.sv39_walk.specs.declared.Kind.{Kind}
 use Rattle.sv39_walk.specs.declared.WalkFault.{WalkFault}
-use Rattle.sv39_walk.specs.Entry.{address_in, has_bit, is_pointer, page_of, permits}
+use Rattle.sv39_walk.specs.Entry.{address_in, is_pointer, page_of, permits}
 
 -- ---- satp and the virtual address
 

@@ -1,7 +1,8 @@
 // A page-table entry and its bits.
 
 ghost use Rattle.std.specs.Prelude.{◌≡◌, ◌∷◌, ◌+◌, ◌*◌, ◌%◌, ◌^◌, ◌<◌, ◌≤◌, ◌&&◌, [], ⊤, codes};
-ghost use Rattle.sv39_walk.specs.Entry.{address_in, has_bit, is_aligned, is_leaf, is_pointer, is_well_formed, page_of, permits, permits_kind, permits_mode, supervisor_may};
+ghost use Rattle.rv_alu.specs.Bits.{has_bit};
+ghost use Rattle.sv39_walk.specs.Entry.{address_in, is_aligned, is_leaf, is_pointer, is_well_formed, page_of, permits, permits_kind, permits_mode, supervisor_may};
 
 use crate::{Ctx, Kind};
 use bitflags::{Flag, Flags, bitflag_items};

@@ -5,7 +5,7 @@ use Rattle.std.proofs.lemmas.Nat.Bits.{and_high, and_high_mask}
 use Rattle.std.proofs.lemmas.Bool.{cond_both, cond-false}
 use Rattle.std.specs.Int.Bits.{and_zero_r}
 use Rattle.rv_alu.specs.declared.Mode.{Mode}
-use Rattle.csr_file.specs.Access.{level}
+use Rattle.rv_alu.specs.Modes.{level, mode_of}
 use Rattle.csr_file.specs.Bits.{all_bits, even, mstatus_bits, mstatus_mie, mstatus_mpie, mstatus_mpp, mstatus_mpp_reserved, mstatus_sie, mstatus_spie, mstatus_spp, mstatus_xlen}
 use Rattle.csr_file.specs.Kept.{kept_value, with_kept}
 use Rattle.csr_file.specs.Legal.{kept_bits, legal, legal_status}
@@ -15,7 +15,7 @@ use Rattle.csr_file.specs.declared.registers.Registers.{Registers}
 use Rattle.csr_file.proofs.LegalLaws.{masked}
 use Rattle.trap_rules.specs.declared.Cause.{Cause}
 use Rattle.trap_rules.specs.Entry.{machine_entered, supervisor_entered}
-use Rattle.trap_rules.specs.Status.{bits_if, has, machine_previous, machine_stacked, mode_of, supervisor_previous, supervisor_stacked}
+use Rattle.trap_rules.specs.Status.{bits_if, has, machine_previous, machine_stacked, supervisor_previous, supervisor_stacked}
 
 -- ---- the pc
 

@@ -1,22 +1,19 @@
 -- Where a trap goes and what its entry writes.
-use Rattle.std.specs.Prelude.{ℕ, ◌+◌, ◌-◌, ◌*◌, ◌/◌, ◌%◌, ◌^◌, ◌==◌, Bool, ◌&&◌, not, if◌then◌else◌}
+use Rattle.std.specs.Prelude.{ℕ, ◌+◌, ◌-◌, ◌*◌, ◌%◌, ◌^◌, ◌==◌, Bool, ◌&&◌, not, if◌then◌else◌}
+use Rattle.rv_alu.specs.Bits.{has_bit}
+use Rattle.rv_alu.specs.Modes.{level}
 use Rattle.rv_alu.specs.declared.Mode.{Mode}
-use Rattle.csr_file.specs.Access.{level}
 use Rattle.csr_file.specs.Numbers.{csr_mcause, csr_mepc, csr_mstatus, csr_mtval, csr_scause, csr_sepc, csr_stval}
 use Rattle.csr_file.specs.Write.{written}
 use Rattle.csr_file.specs.declared.registers.Registers.{Registers}
 use Rattle.trap_rules.specs.declared.Cause.{Cause}
 use Rattle.trap_rules.specs.Status.{machine_stacked, supervisor_stacked}
 
--- bit n of the word is 1
-abbrev pub is_set : ℕ → ℕ → Bool
-is_set word n = word / 2 ^ n % 2 == 1
-
 -- medeleg delegates exceptions and mideleg interrupts, each by the bit of its number
 -- (Privileged ISA, "Machine Trap Delegation Registers")
 abbrev pub is_delegated : Registers → Cause → Bool
-is_delegated r (Cause.Exception n) = is_set r.medeleg n
-is_delegated r (Cause.Interrupt n) = is_set r.mideleg n
+is_delegated r (Cause.Exception n) = has_bit r.medeleg n
+is_delegated r (Cause.Interrupt n) = has_bit r.mideleg n
 
 -- what is delegated goes to S, but no trap goes from M to a lower mode
 abbrev pub goes_to_supervisor : Registers → Mode → Cause → Bool

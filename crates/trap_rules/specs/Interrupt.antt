@@ -3,16 +3,16 @@
 use Rattle.std.specs.Prelude.{ℕ, ◌^◌, ◌==◌, Bool, false, true, ◌&&◌, ◌||◌, not, is_some, if◌then◌else◌, Option, None, Some, List, [], ◌∷◌, find, ◌<◌, IsTrue}
 use Rattle.std.specs.Option.{option_or}
 use Rattle.rv_alu.specs.declared.Mode.{Mode}
-use Rattle.csr_file.specs.Access.{level}
+use Rattle.rv_alu.specs.Modes.{level}
 use Rattle.csr_file.specs.Bits.{mstatus_mie, mstatus_sie}
 use Rattle.csr_file.specs.declared.registers.Registers.{Registers}
 use Rattle.trap_rules.specs.declared.Cause.{Cause}
 use Rattle.trap_rules.specs.Status.{has}
-use Rattle.trap_rules.specs.Entry.{is_set}
+use Rattle.rv_alu.specs.Bits.{has_bit}
 
 -- interrupt n is pending, by the software bits or by a live signal, and mie enables it
 abbrev pub is_waiting : Registers → ℕ → ℕ → Bool
-is_waiting r live n = (is_set r.mip n || is_set live n) && is_set r.mie n
+is_waiting r live n = (has_bit r.mip n || has_bit live n) && has_bit r.mie n
 
 -- an interrupt bound for M can be taken below M, and in M where MIE is set
 abbrev pub is_machine_open : Registers → Mode → Bool
@@ -26,11 +26,11 @@ is_supervisor_open r Mode.M = false
 
 -- interrupt n traps to M: it waits, and mideleg does not delegate it
 abbrev pub traps_to_machine : Registers → Mode → ℕ → ℕ → Bool
-traps_to_machine r mode live n = is_machine_open r mode && (is_waiting r live n && not (is_set r.mideleg n))
+traps_to_machine r mode live n = is_machine_open r mode && (is_waiting r live n && not (has_bit r.mideleg n))
 
 -- interrupt n traps to S: it waits, and mideleg delegates it
 abbrev pub traps_to_supervisor : Registers → Mode → ℕ → ℕ → Bool
-traps_to_supervisor r mode live n = is_supervisor_open r mode && (is_waiting r live n && is_set r.mideleg n)
+traps_to_supervisor r mode live n = is_supervisor_open r mode && (is_waiting r live n && has_bit r.mideleg n)
 
 -- the order among interrupts for one mode: MEI, MSI, MTI, SEI, SSI, STI
 abbrev pub interrupt_order : List ℕ

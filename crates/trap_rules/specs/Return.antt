@@ -1,12 +1,13 @@
 -- The returns: mret and sret (Privileged ISA, "Trap-Return Instructions"), and dret (External Debug Support,
 -- "Debug Mode").
 use Rattle.std.specs.Prelude.{ℕ, ◌%◌, ◌^◌, Option, None, Some}
+use Rattle.rv_alu.specs.Modes.{mode_of}
 use Rattle.rv_alu.specs.declared.Mode.{Mode}
 use Rattle.csr_file.specs.Numbers.{csr_mstatus}
 use Rattle.csr_file.specs.Write.{written}
 use Rattle.csr_file.specs.declared.registers.DebugRegs.{DebugRegs}
 use Rattle.csr_file.specs.declared.registers.Registers.{Registers}
-use Rattle.trap_rules.specs.Status.{machine_previous, machine_unstacked, mode_of, supervisor_previous, supervisor_unstacked}
+use Rattle.trap_rules.specs.Status.{machine_previous, machine_unstacked, supervisor_previous, supervisor_unstacked}
 
 -- the registers after mret, which goes to the mode in MPP at mepc
 unfoldable pub machine_returned : Registers → Registers

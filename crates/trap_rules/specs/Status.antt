@@ -2,7 +2,7 @@
 -- (Privileged ISA, "Privilege and Global Interrupt-Enable Stack in mstatus register").
 use Rattle.std.specs.Prelude.{ℕ, ◌+◌, ◌*◌, ◌/◌, ◌%◌, ◌^◌, ◌==◌, Bool, not, bit_and, if◌then◌else◌}
 use Rattle.rv_alu.specs.declared.Mode.{Mode}
-use Rattle.csr_file.specs.Access.{level}
+use Rattle.rv_alu.specs.Modes.{level, mode_of}
 use Rattle.csr_file.specs.Bits.{mstatus_mie, mstatus_mpie, mstatus_mpp, mstatus_mprv, mstatus_sie, mstatus_spie, mstatus_spp}
 use Rattle.csr_file.specs.Write.{merged}
 
@@ -13,10 +13,6 @@ has word mask = not (bit_and word mask == 0)
 -- these bits where the test holds, else none
 abbrev pub bits_if : Bool → ℕ → ℕ
 bits_if test mask = if test then mask else 0
-
--- the mode of a number in the fields MPP and prv, which never keep 2 (Privileged ISA, "Privilege Levels")
-abbrev pub mode_of : ℕ → Mode
-mode_of number = if number == 3 then Mode.M else if number == 1 then Mode.S else Mode.U
 
 -- the mode in MPP, bits 12:11, to which mret returns
 abbrev pub machine_previous : ℕ → Mode

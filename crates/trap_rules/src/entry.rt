@@ -1,8 +1,8 @@
 //! Entry to a trap.
 #![tactic(auto, unfolding(crate::specs::Entry::machine_entered, crate::specs::Entry::supervisor_entered, crate::specs::Entry::entered))]
 
-ghost use Rattle.std.specs.Prelude.{◌≡◌, ◌<◌, ◌%◌, IsNone};
-ghost use Rattle.trap_rules.specs.Entry.{cause_word, entered, goes_to_supervisor, handler, handler_pc, handling_mode, is_set, machine_entered, supervisor_entered};
+ghost use Rattle.std.specs.Prelude.{◌≡◌, ◌%◌, IsNone};
+ghost use Rattle.trap_rules.specs.Entry.{cause_word, entered, goes_to_supervisor, handler, handler_pc, handling_mode, machine_entered, supervisor_entered};
 ghost use Rattle.trap_rules.specs.Interrupt.{MayCome};
 ghost use Rattle.trap_rules.specs.Return.{return_mode, return_pc};
 
@@ -13,18 +13,10 @@ use crate::registers::{
 };
 use crate::status::{machine_stacked, supervisor_stacked};
 use csr_file::CsrFile;
-use rv_alu::Mode;
+use rv_alu::{Mode, has_bit};
 
 /// Bit 63 of a cause register, which says that the cause is an interrupt.
 const INTERRUPT: u64 = 0x8000_0000_0000_0000;
-
-/// Whether bit `n` of the word is 1.
-pub(crate) fn is_set(word: u64, n: u8) -> bool
-    requires { n < 64 }
-    ensures { result ≡ is_set word n }
-{
-    word >> n & 1 == 1
-}
 
 /// Whether the trap goes to supervisor mode.
 fn goes_to_supervisor(csrs: &CsrFile, mode: Mode, cause: Cause) -> bool
@@ -32,8 +24,8 @@ fn goes_to_supervisor(csrs: &CsrFile, mode: Mode, cause: Cause) -> bool
     ensures { result ≡ goes_to_supervisor csrs.now mode cause }
 {
     let delegated = match cause {
-        Cause::Exception(n) => is_set(medeleg(csrs), n),
-        Cause::Interrupt(n) => is_set(mideleg(csrs), n),
+        Cause::Exception(n) => has_bit(medeleg(csrs), n),
+        Cause::Interrupt(n) => has_bit(mideleg(csrs), n),
     };
     mode != Mode::M && delegated
 }

@@ -3,15 +3,14 @@
 ghost use Rattle.std.specs.Prelude.{◌≡◌, find, IfSome, IsTrue};
 ghost use Rattle.csr_file.specs.Numbers.{csr_mip};
 ghost use Rattle.csr_file.specs.View.{IsGiven};
-ghost use Rattle.trap_rules.specs.Entry.{is_set};
+ghost use Rattle.rv_alu.specs.Bits.{has_bit};
 ghost use Rattle.trap_rules.specs.Interrupt.{interrupt_order, is_machine_open, is_supervisor_open, may_be_taken, own_signal, picked, traps_to_machine, traps_to_supervisor};
 
-use crate::entry::is_set;
 use crate::registers::{mideleg, mie, mip, mstatus};
 use crate::status::has;
 use csr_file::CsrFile;
 use csr_file::masks::{MSTATUS_MIE, MSTATUS_SIE};
-use rv_alu::Mode;
+use rv_alu::{Mode, has_bit};
 
 /// Whether an interrupt bound for machine mode can be taken.
 fn is_machine_open(csrs: &CsrFile, mode: Mode) -> bool
@@ -33,21 +32,21 @@ fn is_supervisor_open(csrs: &CsrFile, mode: Mode) -> bool
 
 /// The first interrupt of a set in the order of priority: MEI, MSI, MTI, SEI, SSI, STI.
 fn first(set: u64) -> Option<u8>
-    ensures { result ≡ find (is_set set) interrupt_order }
+    ensures { result ≡ find (has_bit set) interrupt_order }
 {
     if set == 0 {
         None
-    } else if is_set(set, 11) {
+    } else if has_bit(set, 11) {
         Some(11)
-    } else if is_set(set, 3) {
+    } else if has_bit(set, 3) {
         Some(3)
-    } else if is_set(set, 7) {
+    } else if has_bit(set, 7) {
         Some(7)
-    } else if is_set(set, 9) {
+    } else if has_bit(set, 9) {
         Some(9)
-    } else if is_set(set, 1) {
+    } else if has_bit(set, 1) {
         Some(1)
-    } else if is_set(set, 5) {
+    } else if has_bit(set, 5) {
         Some(5)
     } else {
         None

@@ -7,10 +7,10 @@ ghost use Rattle.trap_rules.specs.Return.{debug_returned, machine_returned, resu
 
 use crate::registers::{mepc, mstatus, sepc, set_mstatus};
 use crate::status::{
-    machine_previous, machine_unstacked, mode_of, supervisor_previous, supervisor_unstacked,
+    machine_previous, machine_unstacked, supervisor_previous, supervisor_unstacked,
 };
 use csr_file::CsrFile;
-use rv_alu::Mode;
+use rv_alu::{Mode, mode_of};
 
 /// Returns from a trap in machine mode: gives the mode in MPP and the pc in `mepc`, and takes the old
 /// interrupt enable back (Privileged ISA, "Trap-Return Instructions"). The hart is not in debug mode.

@@ -2,13 +2,13 @@
 #![tactic(auto, unfolding(crate::specs::Status::machine_stacked, crate::specs::Status::supervisor_stacked, crate::specs::Status::machine_unstacked, crate::specs::Status::supervisor_unstacked))]
 
 ghost use Rattle.std.specs.Prelude.{◌≡◌};
-ghost use Rattle.trap_rules.specs.Status.{bits_if, has, machine_previous, machine_stacked, machine_unstacked, mode_of, supervisor_previous, supervisor_stacked, supervisor_unstacked};
+ghost use Rattle.trap_rules.specs.Status.{bits_if, has, machine_previous, machine_stacked, machine_unstacked, supervisor_previous, supervisor_stacked, supervisor_unstacked};
 
 use csr_file::masks::{
     MSTATUS_MIE, MSTATUS_MPIE, MSTATUS_MPP, MSTATUS_MPRV, MSTATUS_SIE, MSTATUS_SPIE, MSTATUS_SPP,
 };
 use csr_file::merge;
-use rv_alu::Mode;
+use rv_alu::{Mode, mode_of};
 
 /// Whether the word has a bit of the mask.
 pub fn has(word: u64, mask: u64) -> bool
@@ -22,17 +22,6 @@ fn bits_if(test: bool, mask: u64) -> u64
     ensures { result ≡ bits_if test mask }
 {
     if test { mask } else { 0 }
-}
-
-/// The mode of a number in the fields MPP and prv.
-pub(crate) fn mode_of(number: u64) -> Mode
-    ensures { result ≡ mode_of number }
-{
-    match number {
-        3 => Mode::M,
-        1 => Mode::S,
-        _ => Mode::U,
-    }
 }
 
 /// The mode in the field MPP of `mstatus`, to which `mret` returns.
