@@ -1,6 +1,7 @@
 -- How a line is read, from left to right. Each function gives a part and the bytes after it, or, where
 -- reading stops, how many bytes are left there.
-use Rattle.std.specs.Prelude.{◌≡◌, ℕ, zero, suc, ◌+◌, ◌-◌, ◌*◌, Bool, List, [], ◌∷◌, length, Option, Some, None, Result, Ok, Err, nat_lt, nat_le, ◌==◌, ◌&&◌, if◌then◌else◌}
+use Rattle.std.specs.Prelude.{◌≡◌, ℕ, zero, suc, ◌+◌, ◌-◌, ◌*◌, List, [], ◌∷◌, length, Option, Some, None, Result, Ok, Err, nat_lt, nat_le, ◌==◌, ◌&&◌, if◌then◌else◌}
+use Rattle.rv_alu.specs.Bits.{is_between}
 use Rattle.hart_step.specs.declared.event.Event.{Event}
 use Rattle.hart_step.specs.declared.event.Event.TheVariants.{Commit, Exception, Interrupt, Host}
 use Rattle.hart_step.specs.declared.event.Priv.{Priv}
@@ -48,9 +49,6 @@ choice letter after without (c ∷ rest) = if c == letter then after rest else w
 unfoldable pub unless_end : {A : Type 0} → A → (List ℕ → Result A ℕ) → List ℕ → Result A ℕ
 unless_end a after [] = Ok a
 unless_end a after (c ∷ rest) = past 32 (c ∷ rest) >>= after
-
-abbrev pub is_between : ℕ → ℕ → ℕ → Bool
-is_between low high c = nat_le low c && nat_le c high
 
 abbrev pub hart_value : ℕ → Option ℕ
 hart_value c = if is_between 48 55 c then Some (c - 48) else None
