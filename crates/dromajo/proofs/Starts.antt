@@ -1,9 +1,7 @@
 -- The start that files define, case by case.
-use Rattle.std.proofs.Common.{◌≡◌, ◌≢◌, ℕ, ◌%◌, ◌<◌, ◌≤◌, List, ◌++◌, length, take, drop, replicate, Bool, true, false, cond, not, nat_lt, nat_eq, Option, Some, None, Result, Ok, Err, IfSome, inl, inr, refl, sym, ap, subst, ◌∙◌, arith}
-use Rattle.std.specs.Prelude.{◌==◌, ◌&&◌, codes, if◌then◌else◌}
-use Rattle.std.specs.List.{starts_with}
+use Rattle.std.proofs.Common.{◌≡◌, ◌≢◌, ℕ, ◌<◌, ◌≤◌, List, ◌++◌, length, take, drop, replicate, Bool, true, false, nat_lt, Option, Some, None, Result, Ok, Err, IfSome, inl, inr, refl, sym, ap, subst, ◌∙◌, arith}
+use Rattle.std.specs.Prelude.{codes, if◌then◌else◌}
 use Rattle.std.specs.Option.{option_or}
-use Rattle.std.proofs.lemmas.Bool.Decides.{nat_tests}
 use Rattle.std.proofs.lemmas.List.{places, same_lists, length-replicate, drop-replicate}
 use Rattle.std.proofs.lemmas.List.FromFn.{length-map-range_with_len}
 use Rattle.guest_ram.specs.Bytes.{base}
@@ -11,19 +9,20 @@ use Rattle.outside_io.specs.Content.{Held, file_of}
 use Rattle.sim_config.specs.declared.fault.ConfigFault.{ConfigFault}
 use Rattle.sim_config.specs.declared.fault.ConfigFault.TheVariants as config_fault
 use Rattle.sim_config.specs.declared.values.Config.{Config}
+use Rattle.sim_config.specs.Faults.{is_host_word}
 use Rattle.sim_config.specs.Ranges.{IsInRam, IsWindow}
 use Rattle.sim_config.specs.Reading.{config_of, most_bytes, text_fault}
+use Rattle.sim_config.proofs.RangeLemmas.{in_ram}
 use Rattle.elf_load.specs.declared.fault.ElfFault.{ElfFault}
 use Rattle.elf_load.specs.declared.fault.ElfFault.TheVariants.{OutsideRam, TooLong, WrongKind}
 use Rattle.elf_load.specs.declared.fault.ElfField.TheVariants.{Tohost}
-use Rattle.elf_load.specs.Format.{header_of, header_size, magic, segment_size}
-use Rattle.elf_load.specs.Loading.{HasHeader, entry_of, field_fault, header_fault, load_fault, loaded_memory, longest_file, memory_with, segments_fault, table_fault}
+use Rattle.elf_load.specs.Loading.{entry_of, header_fault, load_fault, loaded_memory, longest_file, memory_with, segments_fault}
 use Rattle.elf_load.specs.Symbols.{symbol_value}
 use Rattle.dromajo.specs.declared.program.Start.{Start}
 use Rattle.dromajo.specs.declared.status.Status.{Status}
 use Rattle.dromajo.specs.declared.status.Status.TheVariants.{BadConfig, BadElf}
 use Rattle.dromajo.specs.CommandLine.{FromConfig, FromImage}
-use Rattle.dromajo.specs.Program.{IsRefused, config_refusal, flat_ram, flat_shape, image_ram, image_start, is_host_word, program_start, start_of, start_of_config, start_of_program, start_unless, start_with_window, symbol_window, window_of}
+use Rattle.dromajo.specs.Program.{IsRefused, config_refusal, flat_ram, flat_shape, image_ram, image_start, program_start, start_of, start_of_config, start_of_program, start_unless, start_with_window, symbol_window, window_of}
 
 above : (a b : ℕ) → a < b → nat_lt a b ≡ true
 above a b less = grind arith
@@ -135,38 +134,6 @@ program_started config file ram ram_len entry tohost len loaded at =
 pub loaded_length : (file : List ℕ) (ram_len : ℕ) → length (loaded_memory file ram_len) ≡ ram_len
 unfolding memory_with
 loaded_length file ram_len = length-map-range_with_len _ 0 ram_len
-
--- a check that is passed, and what comes after it
-passed : {X : Type 0} (b : Bool) (x : X) (rest : Option X) → cond b (Some x) rest ≡ None → (b ≡ false) × (rest ≡ None)
-passed true x rest h = absurd (let h = h in cc)
-passed false x rest h = (refl, h)
-
-first_none : {X : Type 0} (a b : Option X) → option_or a b ≡ None → a ≡ None
-first_none None b h = refl
-first_none (Some x) b h = absurd (let h = h in cc)
-
-even_field : (file : List ℕ) → field_fault (header_of file) ≡ None → entry_of file % 2 ≡ 0
-unfolding field_fault
-even_field file none =
-    let class = passed (not ((header_of file).class == 2)) _ _ none in
-    let order = passed (not ((header_of file).order == 1)) _ _ class.1 in
-    let kind = passed (not ((header_of file).kind == 2)) _ _ order.1 in
-    let machine = passed (not ((header_of file).machine == 243)) _ _ kind.1 in
-    let phentsize = passed (not ((header_of file).phnum == 0) && not ((header_of file).phentsize == segment_size)) _ _ machine.1 in
-    let entry = passed (not (entry_of file % 2 == 0)) _ _ phentsize.1 in
-    grind (arith, nat_tests, entry.0)
-
--- the entry of a file that was loaded is even
-pub even_entry : (file : List ℕ) → HasHeader file → entry_of file % 2 ≡ 0
-unfolding header_fault
-even_entry file none =
-    let short = passed (nat_lt longest_file (length file)) _ _ none in
-    let elf = passed (not (starts_with nat_eq file magic)) _ _ short.1 in
-    let whole = passed (nat_lt (length file) header_size) _ _ elf.1 in
-    even_field file (first_none (field_fault (header_of file)) (table_fault (length file) (header_of file)) whole.1)
-
-in_ram : (ram_len at : ℕ) → is_host_word ram_len at ≡ true → IsInRam ram_len at
-in_ram ram_len at is = record { aligned = grind (arith, nat_tests); above = grind (arith, nat_tests); below = grind (arith, nat_tests) }
 
 word_window : (ram_len at tohost : ℕ) (b : Bool) → is_host_word ram_len at ≡ b → Ok tohost ≡ (if b then Ok at else Err (WrongKind Tohost)) → IsWindow ram_len tohost
 word_window ram_len at tohost true word is = let same : tohost ≡ at = cc in inr (subst (IsInRam ram_len) (sym same) (in_ram ram_len at word))

@@ -1,6 +1,6 @@
 -- Where a machine begins: its shape, the bytes of its memory and its entry, or why the files that it comes
 -- from are refused.
-use Rattle.std.specs.Prelude.{◌≡◌, ◌≢◌, ℕ, ◌+◌, ◌-◌, ◌%◌, ◌==◌, ◌&&◌, Bool, List, ◌++◌, length, replicate, codes, nat_le, nat_lt, if◌then◌else◌, Option, Some, None, Result, Ok, Err}
+use Rattle.std.specs.Prelude.{◌≡◌, ◌≢◌, ℕ, ◌+◌, ◌-◌, ◌%◌, List, ◌++◌, length, replicate, codes, nat_lt, if◌then◌else◌, Option, Some, None, Result, Ok, Err}
 use Rattle.guest_ram.specs.Bytes.{base}
 use Rattle.outside_io.specs.Causes.{Rose}
 use Rattle.outside_io.specs.Content.{Held, file_of}
@@ -8,6 +8,7 @@ use Rattle.sim_config.specs.declared.fault.ConfigFault.{ConfigFault}
 use Rattle.sim_config.specs.declared.fault.ConfigFault.TheVariants as config_fault
 use Rattle.sim_config.specs.declared.values.Config.{Config}
 use Rattle.sim_config.specs.declared.values.Shape.{Shape}
+use Rattle.sim_config.specs.Faults.{is_host_word}
 use Rattle.sim_config.specs.Ranges.{IsShape}
 use Rattle.sim_config.specs.Reading.{config_of}
 use Rattle.elf_load.specs.declared.fault.ElfFault.{ElfFault}
@@ -44,10 +45,6 @@ abbrev pub start_of_image : List ℕ → Result Start Status
 start_of_image image = if nat_lt flat_ram (length image) then Err (BadElf (OutsideRam 0)) else Ok (image_start image)
 
 -- ---- an ELF file on the machine of a configuration
-
--- a multiple of 8 whose 8 bytes lie in a memory of ram_len bytes
-abbrev pub is_host_word : ℕ → ℕ → Bool
-is_host_word ram_len at = (at % 8 == 0) && nat_le base at && nat_le (at + 8) (base + ram_len)
 
 -- the host window at a symbol's value, and none where there is no such symbol
 abbrev pub symbol_window : ℕ → Result (Option ℕ) ElfFault → Result ℕ ElfFault

@@ -1,9 +1,10 @@
 -- What the checks of the header say of a file that passes them.
-use Rattle.std.proofs.Common.{◌≡◌, ℕ, ◌+◌, ◌*◌, ◌<◌, ◌≤◌, List, length, Bool, true, false, cond, not, nat_lt, nat_eq, Option, Some, None, refl, sym, ap, subst, ◌∙◌, arith}
+use Rattle.std.proofs.Common.{◌≡◌, ℕ, ◌+◌, ◌*◌, ◌%◌, ◌<◌, ◌≤◌, List, length, Bool, true, false, cond, not, nat_lt, nat_eq, Option, Some, None, refl, sym, ap, subst, ◌∙◌, arith}
 use Rattle.std.proofs.lemmas.Bool.Decides.{nat_tests}
+use Rattle.std.specs.Prelude.{◌==◌, ◌&&◌}
 use Rattle.std.specs.List.{starts_with}
 use Rattle.elf_load.specs.Format.{header_of, header_size, magic, segment_of, segment_size}
-use Rattle.elf_load.specs.Loading.{HasHeader, field_fault, header_fault, longest_file, segment_fault, segments_fault, table_fault}
+use Rattle.elf_load.specs.Loading.{HasHeader, entry_of, field_fault, header_fault, longest_file, segment_fault, segments_fault, table_fault}
 use Rattle.elf_load.specs.First.{first_of}
 use Rattle.elf_load.specs.declared.fault.ElfFault.{ElfFault}
 use Rattle.elf_load.specs.declared.format.FileHeader.{FileHeader}
@@ -38,6 +39,26 @@ whole_file file none =
       header = grind (arith, nat_tests, has_header.0);
       table = table_inside (length file) (header_of file) parts.1;
     }
+
+even_field : (file : List ℕ) → field_fault (header_of file) ≡ None → entry_of file % 2 ≡ 0
+unfolding field_fault
+even_field file none =
+    let class = passed (not ((header_of file).class == 2)) _ _ none in
+    let order = passed (not ((header_of file).order == 1)) _ _ class.1 in
+    let kind = passed (not ((header_of file).kind == 2)) _ _ order.1 in
+    let machine = passed (not ((header_of file).machine == 243)) _ _ kind.1 in
+    let phentsize = passed (not ((header_of file).phnum == 0) && not ((header_of file).phentsize == segment_size)) _ _ machine.1 in
+    let entry = passed (not (entry_of file % 2 == 0)) _ _ phentsize.1 in
+    grind (arith, nat_tests, entry.0)
+
+-- the entry of a file that was loaded is even
+pub even_entry : (file : List ℕ) → HasHeader file → entry_of file % 2 ≡ 0
+unfolding header_fault
+even_entry file none =
+    let short = passed (nat_lt longest_file (length file)) _ _ none in
+    let elf = passed (not (starts_with nat_eq file magic)) _ _ short.1 in
+    let whole = passed (nat_lt (length file) header_size) _ _ elf.1 in
+    even_field file (option_or-none (field_fault (header_of file)) (table_fault (length file) (header_of file)) whole.1).0
 
 -- each program header lies in the file
 pub segment_inside : (file : List ℕ) (h : FileHeader) → HasHeader file → h ≡ header_of file → (i : ℕ) → i < h.phnum → h.phoff + segment_size * (i + 1) ≤ length file

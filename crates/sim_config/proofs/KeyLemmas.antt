@@ -1,5 +1,6 @@
 -- The faults of the keys along a list, and the first key of a map that is not listed.
 use Rattle.std.proofs.Common.{◌≡◌, ◌≢◌, ℕ, ◌<◌, ◌≤◌, ◌+◌, List, [], ◌∷◌, length, drop, get_or, Bool, true, false, not, cond, Option, Some, None, option_map, String, Global, string_bytes, Bor, refl, ap, ◌∙◌, add-one}
+use Rattle.std.specs.Option.{option_or}
 use Rattle.std.proofs.Math.Seq.{drop-cons}
 use Rattle.std.proofs.lemmas.List.{drop_all}
 use Rattle.std.specs.List.{find}
@@ -16,23 +17,23 @@ use Rattle.sim_config.specs.declared.keys.Rule.TheVariants.{Unlisted, Optional, 
 use Rattle.sim_config.specs.Keys.{rule_of}
 use Rattle.sim_config.specs.declared.fault.ConfigFault.{ConfigFault}
 use Rattle.sim_config.specs.declared.fault.ConfigFault.TheVariants.{Unknown}
-use Rattle.sim_config.specs.Faults.{range_fault, value_fault, rule_fault, key_fault, keys_fault, first_of, is_listed, first_unlisted}
+use Rattle.sim_config.specs.Faults.{range_fault, value_fault, rule_fault, key_fault, keys_fault, is_listed, first_unlisted}
 
 -- the first of these keys, and the others
 step : (form : Form) (ms : Members) (keys : List Key) (i : ℕ) (d : Key) → i < length keys
-    → keys_fault form ms (drop i keys) ≡ first_of (key_fault form ms (get_or keys i d)) (keys_fault form ms (drop (i + 1) keys))
+    → keys_fault form ms (drop i keys) ≡ option_or (key_fault form ms (get_or keys i d)) (keys_fault form ms (drop (i + 1) keys))
 unfolding keys_fault
 step form ms keys i d within = rw (add-one, drop-cons keys i d)
 
 -- a key with no fault is passed over
 pub passes : (form : Form) (ms : Members) (keys : List Key) (i : ℕ) (d : Key) → i < length keys → key_fault form ms (get_or keys i d) ≡ None
     → keys_fault form ms (drop i keys) ≡ keys_fault form ms (drop (i + 1) keys)
-passes form ms keys i d within none = step form ms keys i d within ∙ ap (λ fault. first_of fault (keys_fault form ms (drop (i + 1) keys))) none
+passes form ms keys i d within none = step form ms keys i d within ∙ ap (λ fault. option_or fault (keys_fault form ms (drop (i + 1) keys))) none
 
 -- a key with a fault gives it
 pub stops : (form : Form) (ms : Members) (keys : List Key) (i : ℕ) (d : Key) (fault : ConfigFault) → i < length keys → key_fault form ms (get_or keys i d) ≡ Some fault
     → keys_fault form ms (drop i keys) ≡ Some fault
-stops form ms keys i d fault within some = step form ms keys i d within ∙ ap (λ found. first_of found (keys_fault form ms (drop (i + 1) keys))) some
+stops form ms keys i d fault within some = step form ms keys i d within ∙ ap (λ found. option_or found (keys_fault form ms (drop (i + 1) keys))) some
 
 -- past the last key there is no fault
 pub ends : (form : Form) (ms : Members) (keys : List Key) (i : ℕ) → length keys ≤ i → keys_fault form ms (drop i keys) ≡ None
@@ -59,7 +60,7 @@ rule_knows key (Optional kind) ram (Some d) name e = value_knows key kind ram d 
 rule_knows key (Required kind) ram None name e = cc
 rule_knows key (Required kind) ram (Some d) name e = value_knows key kind ram d name e
 
-first_knows : (a b : Option ConfigFault) (name : List ℕ) → a ≢ Some (Unknown name) → b ≢ Some (Unknown name) → first_of a b ≢ Some (Unknown name)
+first_knows : (a b : Option ConfigFault) (name : List ℕ) → a ≢ Some (Unknown name) → b ≢ Some (Unknown name) → option_or a b ≢ Some (Unknown name)
 first_knows None b name first later e = later e
 first_knows (Some fault) b name first later e = first e
 

@@ -1,7 +1,8 @@
 -- A text without a fault has its values in their ranges, and values in their ranges have no fault.
-use Rattle.std.proofs.Common.{◌≡◌, ◌≢◌, ◌≤◌, ◌+◌, ◌%◌, ◌⊎◌, ℕ, List, [], ◌∷◌, length, Bool, true, false, not, cond, ◌&&◌, ◌||◌, ◌==◌, nat_le, Option, Some, None, option_map, option_and_then, unwrap_or, IfSome, true≢false, inl, inr, refl, sym, subst, arith}
+use Rattle.std.proofs.Common.{◌≡◌, ◌≢◌, ◌≤◌, ℕ, List, [], ◌∷◌, length, Bool, true, false, not, cond, ◌==◌, Option, Some, None, option_map, option_and_then, unwrap_or, IfSome, true≢false, inl, inr, refl, sym, subst, arith}
+use Rattle.std.proofs.lemmas.Bool.{or_cases}
 use Rattle.std.proofs.lemmas.Bool.Decides.{nat_tests}
-use Rattle.std.specs.Option.{option_map_or}
+use Rattle.std.specs.Option.{option_map_or, option_or}
 use Rattle.serde_json.specs.Data.{Data, Members, no_members}
 use Rattle.serde_json.specs.Find.{as_object, as_str}
 use Rattle.sim_config.specs.declared.keys.Key.{Key}
@@ -13,17 +14,18 @@ use Rattle.sim_config.specs.declared.keys.Rule.TheVariants.{Optional, Required}
 use Rattle.sim_config.specs.declared.fault.ConfigFault.{ConfigFault}
 use Rattle.sim_config.specs.declared.fault.ConfigFault.TheVariants.{TooLong}
 use Rattle.sim_config.specs.Keys.{key_order}
-use Rattle.sim_config.specs.Faults.{value_at, number_of, number_at, number_in, is_within, is_pages, is_window, ram_base, range_fault, rule_fault, key_fault, first_of, keys_fault, members_fault}
+use Rattle.rv_alu.specs.Bits.{is_between}
+use Rattle.sim_config.specs.Faults.{value_at, number_of, number_at, number_in, is_pages, is_host_word, is_window, range_fault, rule_fault, key_fault, keys_fault, members_fault}
 use Rattle.sim_config.specs.Reading.{reading, object_fault, reading_fault, text_fault, members_of, text_members, config_values, meta_values}
 use Rattle.sim_config.specs.Ranges.{IsRamLength, IsInRam, IsWindow, IsConfig, IsMeta}
 
 -- ---- no fault of a text is none of each key
 
-no_first : (a b : Option ConfigFault) → first_of a b ≡ None → a ≡ None
+no_first : (a b : Option ConfigFault) → option_or a b ≡ None → a ≡ None
 no_first None b none = refl
 no_first (Some fault) b none = absurd (cc)
 
-no_later : (a b : Option ConfigFault) → first_of a b ≡ None → b ≡ None
+no_later : (a b : Option ConfigFault) → option_or a b ≡ None → b ≡ None
 no_later None b none = none
 no_later (Some fault) b none = absurd (cc)
 
@@ -91,9 +93,9 @@ number_passed key test None none = absurd (cc)
 number_passed key test (Some n) none = passed key (test n) none
 
 required_number : (key : Key) (least most ram : ℕ) (found : Option Data) → rule_fault key (Required (Number least most)) ram found ≡ None
-    → is_within least most (unwrap_or (option_and_then number_of found) 0) ≡ true
+    → is_between least most (unwrap_or (option_and_then number_of found) 0) ≡ true
 required_number key least most ram None none = absurd (cc)
-required_number key least most ram (Some d) none = number_passed key (is_within least most) (number_of d) none
+required_number key least most ram (Some d) none = number_passed key (is_between least most) (number_of d) none
 
 required_pages : (key : Key) (least most ram : ℕ) (found : Option Data) → rule_fault key (Required (Pages least most)) ram found ≡ None
     → is_pages least most (unwrap_or (option_and_then number_of found) 0) ≡ true
@@ -128,27 +130,24 @@ required_text key ram (Some d) none = text_passed key (as_str d) none
 
 -- ---- the tests as facts
 
-least_of : (least most n : ℕ) → is_within least most n ≡ true → least ≤ n
+least_of : (least most n : ℕ) → is_between least most n ≡ true → least ≤ n
 least_of least most n within = grind (arith, nat_tests)
 
-most_of : (least most n : ℕ) → is_within least most n ≡ true → n ≤ most
+most_of : (least most n : ℕ) → is_between least most n ≡ true → n ≤ most
 most_of least most n within = grind (arith, nat_tests)
 
 ram_fact : (n : ℕ) → is_pages 65536 268435456 n ≡ true → IsRamLength n
 ram_fact n fits = record { least = grind (arith, nat_tests); most = grind (arith, nat_tests); pages = grind (arith, nat_tests) }
 
-either_true : (a b : Bool) → (a || b) ≡ true → (a ≡ true) ⊎ (b ≡ true)
-either_true true b e = inl refl
-either_true false b e = inr e
-
-in_ram : (ram n : ℕ) → ((n % 8 == 0) && nat_le ram_base n && nat_le (n + 8) (ram_base + ram)) ≡ true → IsInRam ram n
+-- a word of the host lies in RAM
+pub in_ram : (ram n : ℕ) → is_host_word ram n ≡ true → IsInRam ram n
 in_ram ram n fits = record { aligned = grind (arith, nat_tests); above = grind (arith, nat_tests); below = grind (arith, nat_tests) }
 
 is_zero : (n : ℕ) → (n == 0) ≡ true → n ≡ 0
 is_zero n e = grind (arith, nat_tests)
 
 pub window_fact : (ram n : ℕ) → is_window ram n ≡ true → IsWindow ram n
-window_fact ram n fits = elim (either_true (n == 0) _ fits) [ inl zero ↦ inl (is_zero n zero) | inr rest ↦ inr (in_ram ram n rest) ]
+window_fact ram n fits = elim (or_cases (n == 0) _ fits) [ inl zero ↦ inl (is_zero n zero) | inr rest ↦ inr (in_ram ram n rest) ]
 
 window_facts : (ram : ℕ) (o : Option ℕ) → IfSome o (λ n. is_window ram n ≡ true) → IfSome o (IsWindow ram)
 window_facts ram None fits = tt

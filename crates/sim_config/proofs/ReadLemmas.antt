@@ -2,7 +2,7 @@
 use Rattle.std.proofs.Common.{◌≡◌, ◌↔◌, ◌<◌, ◌≤◌, ℕ, List, length, nat_lt, Bool, true, false, cond, IsTrue, Option, Some, None, Ok, Err, option_map, unwrap_or, true≢false, refl, sym, ap, ◌∙◌, arith}
 use Rattle.std.proofs.lemmas.Bool.Decides.{nat_tests}
 use Rattle.std.proofs.lemmas.Str.{IsUtf8-from_is_utf8, is_utf8-from_IsUtf8}
-use Rattle.std.specs.Option.{option_map_or}
+use Rattle.std.specs.Option.{option_map_or, option_or}
 use Rattle.std.specs.Str.{IsUtf8, is_utf8}
 use Rattle.serde_json.specs.Data.{Data, Members, no_members}
 use Rattle.serde_json.specs.Find.{as_object}
@@ -12,7 +12,7 @@ use Rattle.sim_config.specs.declared.keys.Form.{Form}
 use Rattle.sim_config.specs.declared.keys.Form.TheVariants.{Configuration, MetaText}
 use Rattle.sim_config.specs.declared.fault.ConfigFault.{ConfigFault}
 use Rattle.sim_config.specs.declared.fault.ConfigFault.TheVariants.{Unknown, TooLong}
-use Rattle.sim_config.specs.Faults.{number_at, number_in, text_in, first_of, first_unlisted, keys_fault, members_fault}
+use Rattle.sim_config.specs.Faults.{number_at, number_in, text_in, first_unlisted, keys_fault, members_fault}
 use Rattle.sim_config.specs.Keys.{key_order}
 use Rattle.sim_config.specs.Reading.{most_bytes, reading, object_fault, reading_fault, text_fault, members_of, text_members, config_values, meta_values, unless_fault, config_of, meta_of}
 
@@ -43,14 +43,14 @@ members_of-object d ms e = ap (λ o. unwrap_or o no_members) e
 -- a key that is not listed
 pub fault_of_unlisted : (form : Form) (d : Data) (ms : Members) (name : List ℕ) → as_object d ≡ Some ms → first_unlisted form ms ≡ Some name → object_fault form (as_object d) ≡ Some (Unknown name)
 unfolding members_fault
-fault_of_unlisted form d ms name e found = ap (object_fault form) e ∙ ap (λ o. first_of (option_map Unknown o) (keys_fault form ms key_order)) found
+fault_of_unlisted form d ms name e found = ap (object_fault form) e ∙ ap (λ o. option_or (option_map Unknown o) (keys_fault form ms key_order)) found
 
 -- where all are listed, the first fault of the keys
 pub fault_of_keys : (form : Form) (d : Data) (ms : Members) (fault : Option ConfigFault) → as_object d ≡ Some ms → first_unlisted form ms ≡ None → keys_fault form (members_of d) key_order ≡ fault
     → object_fault form (as_object d) ≡ fault
 unfolding members_fault
 fault_of_keys form d ms fault e listed keys =
-    ap (object_fault form) e ∙ ap (λ o. first_of (option_map Unknown o) (keys_fault form ms key_order)) listed
+    ap (object_fault form) e ∙ ap (λ o. option_or (option_map Unknown o) (keys_fault form ms key_order)) listed
     ∙ ap (λ members. keys_fault form members key_order) (sym (members_of-object d ms e)) ∙ keys
 
 -- ---- the first fault of a text

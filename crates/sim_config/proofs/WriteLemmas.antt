@@ -1,5 +1,6 @@
 -- The written meta text: its bytes, its length, and that it reads back.
 use Rattle.std.proofs.Common.{◌≡◌, ◌<◌, ◌≤◌, ◌^◌, ℕ, List, length, Bool, true, false, Option, Some, None, Result, Ok, Err, IfOk, Vec, Global, inl, inr, decimal, refl, sym, ap, subst, ◌∙◌, arith, append_assoc, length-append, lit<, lit≤}
+use Rattle.std.specs.Option.{option_or}
 use Rattle.std.proofs.lemmas.Bool.Decides.{nat_tests}
 use Rattle.std.proofs.lemmas.Fmt.{length-decimal-le}
 use Rattle.std.specs.Str.{IsUtf8}
@@ -13,7 +14,8 @@ use Rattle.sim_config.specs.declared.keys.Key.TheVariants.{Harts, Ram, Slice, To
 use Rattle.sim_config.specs.declared.keys.Form.TheVariants.{MetaText}
 use Rattle.sim_config.specs.declared.fault.ConfigFault.{ConfigFault}
 use Rattle.sim_config.specs.declared.values.Meta.{Meta}
-use Rattle.sim_config.specs.Faults.{is_within, is_pages, is_window, range_fault, first_of, keys_fault, members_fault}
+use Rattle.rv_alu.specs.Bits.{is_between}
+use Rattle.sim_config.specs.Faults.{is_pages, is_window, range_fault, keys_fault, members_fault}
 use Rattle.sim_config.specs.Ranges.{IsRamLength, IsWindow, IsMeta}
 use Rattle.sim_config.specs.Reading.{most_bytes, reading, meta_of}
 use Rattle.sim_config.specs.Written.{meta_members, meta_bytes}
@@ -49,8 +51,8 @@ length_of_meta meta fits =
 
 -- ---- no fault
 
-both : (a b : Option ConfigFault) → a ≡ None → b ≡ None → first_of a b ≡ None
-both a b first later = ap (λ o. first_of o b) first ∙ later
+both : (a b : Option ConfigFault) → a ≡ None → b ≡ None → option_or a b ≡ None
+both a b first later = ap (λ o. option_or o b) first ∙ later
 
 in_range : (key : Key) (test : Bool) → test ≡ true → range_fault key (Some test) ≡ None
 in_range key test passes = ap (λ b. range_fault key (Some b)) passes
@@ -59,7 +61,7 @@ window_passes : (ram n : ℕ) → IsWindow ram n → is_window ram n ≡ true
 window_passes ram n (inl zero) = grind (arith, nat_tests)
 window_passes ram n (inr inside) = grind (arith, nat_tests, inside.aligned, inside.above, inside.below)
 
-within : (least most n : ℕ) → least ≤ n → n ≤ most → is_within least most n ≡ true
+within : (least most n : ℕ) → least ≤ n → n ≤ most → is_between least most n ≡ true
 within least most n above below = grind (arith, nat_tests)
 
 pages : (n : ℕ) → IsRamLength n → is_pages 65536 268435456 n ≡ true

@@ -1,10 +1,13 @@
 -- The first fault of an object's members: first the keys that are not listed, and then key by key.
 use Rattle.std.specs.Prelude.{◌≡◌, ◌≢◌, IsSome, ℕ, ◌+◌, ◌%◌, List, [], ◌∷◌, length, not, Bool, true, false, ◌&&◌, ◌||◌, ◌==◌, nat_le, if◌then◌else◌, Option, Some, None, option_map, option_and_then, unwrap_or}
 use Rattle.std.specs.List.{list_any}
+use Rattle.std.specs.Option.{option_or}
 use Rattle.std.specs.Str.{bytes_eq}
 use Rattle.std.specs.Ordering.{nat_cmp}
 use Rattle.std.specs.Cmp.Lexicographic.{slice_cmp}
 use Rattle.std.specs.declared.cmp.Ordering.TheVariants.{Less}
+use Rattle.rv_alu.specs.Bits.{is_between}
+use Rattle.guest_ram.specs.Bytes.{base}
 use Rattle.serde_json.specs.Data.{Data, Members, no_members, member}
 use Rattle.serde_json.specs.Find.{get_member, as_number, as_str, as_u64}
 use Rattle.sim_config.specs.declared.keys.Key.{Key}
@@ -42,20 +45,17 @@ text_in key ms = unwrap_or (option_and_then as_str (value_at key ms)) []
 
 -- ---- the range of a number
 
-abbrev pub is_within : ℕ → ℕ → ℕ → Bool
-is_within least most n = nat_le least n && nat_le n most
-
--- and a multiple of 4,096
+-- from `least` to `most`, and a multiple of 4,096
 abbrev pub is_pages : ℕ → ℕ → ℕ → Bool
-is_pages least most n = is_within least most n && (n % 4096 == 0)
+is_pages least most n = is_between least most n && (n % 4096 == 0)
 
--- RAM begins at 0x80000000
-abbrev pub ram_base : ℕ
-ram_base = 0x8000_0000
+-- a multiple of 8 whose 8 bytes lie in RAM of so many bytes
+abbrev pub is_host_word : ℕ → ℕ → Bool
+is_host_word ram n = (n % 8 == 0) && nat_le base n && nat_le (n + 8) (base + ram)
 
--- 0, or a multiple of 8 whose 8 bytes lie in RAM of so many bytes
+-- 0, or such a word
 abbrev pub is_window : ℕ → ℕ → Bool
-is_window ram n = (n == 0) || ((n % 8 == 0) && nat_le ram_base n && nat_le (n + 8) (ram_base + ram))
+is_window ram n = (n == 0) || is_host_word ram n
 
 -- ---- the fault at one key
 
@@ -67,7 +67,7 @@ range_fault key (Some false) = Some (OutOfRange key)
 
 -- the fault of a value that stands at the key, where RAM has so many bytes
 abbrev pub value_fault : Key → Kind → ℕ → Data → Option ConfigFault
-value_fault key (Number least most) ram d = range_fault key (option_map (is_within least most) (number_of d))
+value_fault key (Number least most) ram d = range_fault key (option_map (is_between least most) (number_of d))
 value_fault key (Pages least most) ram d = range_fault key (option_map (is_pages least most) (number_of d))
 value_fault key Window ram d = range_fault key (option_map (is_window ram) (number_of d))
 value_fault key Text ram d = range_fault key (option_map (λ text. not (length text == 0)) (as_str d))
@@ -86,14 +86,10 @@ key_fault form ms key = rule_fault key (rule_of form key) (number_in Ram ms) (va
 
 -- ---- the first fault of all
 
-abbrev pub first_of : Option ConfigFault → Option ConfigFault → Option ConfigFault
-first_of None later = later
-first_of (Some fault) later = Some fault
-
 -- the first fault of these keys
 unfoldable pub keys_fault : Form → Members → List Key → Option ConfigFault
 keys_fault form ms [] = None
-keys_fault form ms (key ∷ keys) = first_of (key_fault form ms key) (keys_fault form ms keys)
+keys_fault form ms (key ∷ keys) = option_or (key_fault form ms key) (keys_fault form ms keys)
 
 abbrev pub is_listing : Rule → Bool
 is_listing Unlisted = false
@@ -115,4 +111,4 @@ IsLeastUnlisted form ms name = (other : List ℕ) → IsSome (get_member other m
 
 -- the first fault of an object
 unfoldable pub members_fault : Form → Members → Option ConfigFault
-members_fault form ms = first_of (option_map Unknown (first_unlisted form ms)) (keys_fault form ms key_order)
+members_fault form ms = option_or (option_map Unknown (first_unlisted form ms)) (keys_fault form ms key_order)

@@ -1,9 +1,9 @@
 -- The ranges of the values, as facts.
 use Rattle.std.specs.Prelude.{◌≡◌, ◌≢◌, ℕ, ◌+◌, ◌%◌, ◌≤◌, ◌⊎◌, [], IfSome}
+use Rattle.guest_ram.specs.Bytes.{base}
 use Rattle.sim_config.specs.declared.values.Shape.{Shape}
 use Rattle.sim_config.specs.declared.values.Config.{Config}
 use Rattle.sim_config.specs.declared.values.Meta.{Meta}
-use Rattle.sim_config.specs.Faults.{ram_base}
 
 -- 64 KiB to 256 MiB in whole pages of 4 KiB
 pub record IsRamLength (ram : ℕ) : Type 0 where
@@ -14,8 +14,8 @@ pub record IsRamLength (ram : ℕ) : Type 0 where
 -- a multiple of 8 whose 8 bytes lie in RAM of so many bytes
 pub record IsInRam (ram at : ℕ) : Type 0 where
   pub aligned : at % 8 ≡ 0
-  pub above : ram_base ≤ at
-  pub below : at + 8 ≤ ram_base + ram
+  pub above : base ≤ at
+  pub below : at + 8 ≤ base + ram
 
 -- no host window, or one in RAM
 abbrev pub IsWindow : ℕ → ℕ → Type 0

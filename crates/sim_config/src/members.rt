@@ -1,6 +1,7 @@
 // What stands at the keys of an object, and the first fault of it.
 
 ghost use Rattle.std.specs.Prelude.{◌≡◌, option_map, string_bytes, IfSome};
+ghost use Rattle.rv_alu.specs.Bits.{is_between};
 ghost use Rattle.serde_json.specs.View.{view, members_view};
 ghost use Rattle.sim_config.specs.Faults as faults;
 ghost use Rattle.sim_config.specs.Keys.{key_order};
@@ -8,10 +9,8 @@ ghost use Rattle.sim_config.specs.Reading.{members_of};
 
 use crate::fault::ConfigFault;
 use crate::keys::{Form, Key, Kind, ORDER, Rule, is_listed};
+use guest_ram::BASE;
 use serde_json::{Map, Value};
-
-/// The guest address of the first byte of RAM.
-const RAM_BASE: u64 = 0x8000_0000;
 
 /// What stands at the key.
 fn value_at(value: &Value, key: Key) -> Option<&Value>
@@ -45,8 +44,8 @@ pub(crate) fn text_in(value: &Value, key: Key) -> &str
 }
 
 /// Whether the number is from `least` to `most`.
-fn is_within(least: u64, most: u64, n: u64) -> bool
-    ensures { result ≡ faults.is_within least most n }
+fn is_between(least: u64, most: u64, n: u64) -> bool
+    ensures { result ≡ is_between least most n }
 {
     least <= n && n <= most
 }
@@ -55,14 +54,14 @@ fn is_within(least: u64, most: u64, n: u64) -> bool
 fn is_pages(least: u64, most: u64, n: u64) -> bool
     ensures { result ≡ faults.is_pages least most n }
 {
-    is_within(least, most, n) && n % 4_096 == 0
+    is_between(least, most, n) && n % 4_096 == 0
 }
 
 /// Whether the number is 0, or a multiple of 8 whose 8 bytes lie in RAM of `ram` bytes.
 fn is_window(ram: u64, n: u64) -> bool
     ensures { result ≡ faults.is_window ram n }
 {
-    n == 0 || (n % 8 == 0 && RAM_BASE <= n && n - RAM_BASE + 8 <= ram)
+    n == 0 || (n % 8 == 0 && BASE <= n && n - BASE + 8 <= ram)
 }
 
 /// The fault of a value that has the wrong kind, is in its range, or is not.
@@ -81,7 +80,7 @@ fn value_fault(key: Key, kind: Kind, ram: u64, found: &Value) -> Option<ConfigFa
     ensures { result ≡ faults.value_fault key kind ram (view found.now) }
 {
     let in_range = match kind {
-        Kind::Number(least, most) => found.as_u64().map(|n| is_within(least, most, n)),
+        Kind::Number(least, most) => found.as_u64().map(|n| is_between(least, most, n)),
         Kind::Pages(least, most) => found.as_u64().map(|n| is_pages(least, most, n)),
         Kind::Window => found.as_u64().map(|n| is_window(ram, n)),
         Kind::Text => found.as_str().map(|text| !text.is_empty()),

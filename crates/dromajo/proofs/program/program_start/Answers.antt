@@ -2,7 +2,8 @@
 use Rattle.std.proofs.Common.{◌≡◌, ℕ, ◌%◌, Ok, Err, length, refl, ap, ◌∙◌}
 use Rattle.std.proofs.lemmas.List.{length-replicate}
 use Rattle.dromajo.specs.Program.{window_of}
-use Rattle.dromajo.proofs.Starts.{even_entry, loaded_length, program_loaded, program_refused, program_started, window_fits}
+use Rattle.elf_load.proofs.HeaderLemmas.{even_entry}
+use Rattle.dromajo.proofs.Starts.{loaded_length, program_loaded, program_refused, program_started, window_fits}
 use Rattle.dromajo.proofs.program.program_start.Goals as goal
 
 pub returns-in-Err-load-clause-refused : goal.returns-in-Err-load-clause-refused
