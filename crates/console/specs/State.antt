@@ -1,4 +1,5 @@
--- What contracts see of the console: the bytes that wait, and the values of its registers.
+-- What contracts see of the console: the bytes that wait, and the values of its registers. The device is this
+-- project's own; docs/REFERENCE.md has its registers.
 use Rattle.std.specs.Prelude.{◌+◌, ◌^◌, ◌<◌, ◌≤◌, ℕ, All, Bool, ◌==◌, ◌&&◌, nat_lt, bit_and, if◌then◌else◌, List, [], ◌∷◌, ◌++◌, length}
 
 -- the queue has the bytes that wait to be read, the first of them first

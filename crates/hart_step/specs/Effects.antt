@@ -1,5 +1,6 @@
 -- What each instruction does (Unprivileged ISA, "RV32I Base Integer Instruction Set", "RV64I Base Integer
--- Instruction Set", "M", "A" and "Zicsr" extensions; Privileged ISA, "Privileged Instructions").
+-- Instruction Set", "M", "A" and "Zicsr" extensions; Privileged ISA, "Machine-Mode Privileged Instructions",
+-- "Supervisor Instructions").
 use Rattle.std.specs.Prelude.{◌≡◌, ℕ, ◌+◌, ◌-◌, ◌*◌, ◌%◌, ◌^◌, ◌==◌, ◌&&◌, ◌||◌, not, ℤ, pos, ◌+ℤ◌, Bool, true, false, List, Option, Some, None, Result, Ok, Err, bit_and, bit_or, if◌then◌else◌}
 use Rattle.byteorder.specs.Endian.{little_bytes}
 use Rattle.guest_ram.specs.Bytes.{has_part, number_at, with_part}

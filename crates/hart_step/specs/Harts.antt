@@ -15,7 +15,7 @@ pub record CoreState : Type 0 where
   pub rom : List ℕ
 
 -- hart h at reset is in M mode at the entry, with every register 0, its control and status registers at
--- reset, and no reservation
+-- reset, and no reservation (Privileged ISA, "Reset")
 abbrev pub reset_hart : ℕ → ℕ → Hart
 reset_hart h entry = record { pc = entry; x = replicate 32 0; mode = modes.M; csrs = reset_registers h; reservation = None }
 

@@ -1,5 +1,6 @@
 -- One turn of the machine: each hart in order of number makes its steps, then the host window is looked at, then an
--- offered input byte is taken, and then the timer ticks.
+-- offered input byte is taken, and then the timer ticks. Turns are this project's own: the manuals leave open how the
+-- steps of harts follow one another, and how fast the timer runs.
 use Rattle.std.specs.Prelude.{ℕ, zero, suc, ◌+◌, List, [], ◌∷◌, ◌++◌, length, Option, Some, None, nat_lt, if◌then◌else◌}
 use Rattle.guest_ram.specs.Bytes.{number_at}
 use Rattle.console.specs.State.{queue_room}

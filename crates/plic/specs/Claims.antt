@@ -1,5 +1,6 @@
 -- Pending sources, claims, completions and notifications (RISC-V Platform-Level Interrupt Controller
--- Specification, "Interrupt Pending Bits", "Interrupt Claim Process", "Interrupt Completion").
+-- Specification, "Interrupt Notifications", "Interrupt Pending Bits", "Priority Thresholds", "Interrupt Claim
+-- Process", "Interrupt Completion").
 use Rattle.std.specs.Prelude.{◌≡◌, ◌≢◌, ◌+◌, ◌-◌, ◌^◌, ◌≤◌, ℕ, Bool, IsTrue, ◌==◌, ◌&&◌, ◌||◌, not, nat_lt, bit_and, bit_or, if◌then◌else◌, slice_index}
 use Rattle.rv_alu.specs.Bits.{has_bit}
 use Rattle.plic.specs.State.{PlicRegisters, source_bits}

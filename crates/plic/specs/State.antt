@@ -1,5 +1,7 @@
 -- What contracts see of the controller: the values of its registers, and which sources are served. A context is a
--- hart at one of its levels: context 2h is hart h in machine mode, and context 2h + 1 is hart h in supervisor mode.
+-- hart at one of its levels: context 2h is hart h in machine mode, and context 2h + 1 is hart h in supervisor mode
+-- (RISC-V Platform-Level Interrupt Controller Specification, "Interrupt Targets and Hart Contexts", "Interrupt
+-- Priorities", "Interrupt Enables", "Priority Thresholds").
 use Rattle.std.specs.Prelude.{◌≡◌, ◌*◌, ◌≤◌, ℕ, bit_and, List, length, replicate, All}
 
 -- priority has one number for each of the sources 1 and 2, enable and threshold have one for each context, in

@@ -24,14 +24,14 @@ abbrev pub handling_mode : Registers → Mode → Cause → Mode
 handling_mode r mode cause = if goes_to_supervisor r mode cause then Mode.S else Mode.M
 
 -- the word of mcause and scause: the number of the cause, and bit 63 for an interrupt
--- (Privileged ISA, "Machine Cause Register")
+-- (Privileged ISA, "Machine Cause Register", "Supervisor Cause Register")
 abbrev pub cause_word : Cause → ℕ
 cause_word (Cause.Exception n) = n
 cause_word (Cause.Interrupt n) = 2 ^ 63 + n
 
 -- the address of the handler: BASE, which is the vector without its two low bits, and in vectored mode, which is
 -- 1 in these bits, 4 times the number of an interrupt above it
--- (Privileged ISA, "Machine Trap-Vector Base-Address Register")
+-- (Privileged ISA, "Machine Trap-Vector Base-Address Register", "Supervisor Trap Vector Base Address Register")
 abbrev pub handler : ℕ → Cause → ℕ
 handler vector (Cause.Exception n) = vector - vector % 2 ^ 2
 handler vector (Cause.Interrupt n) =

@@ -1,5 +1,6 @@
 -- The stack of privilege modes and interrupt enables in mstatus
--- (Privileged ISA, "Privilege and Global Interrupt-Enable Stack in mstatus register").
+-- (Privileged ISA, "Privilege and Global Interrupt-Enable Stack in mstatus register"; of MPRV, "Memory Privilege in
+-- mstatus Register").
 use Rattle.std.specs.Prelude.{ℕ, ◌+◌, ◌*◌, ◌/◌, ◌%◌, ◌^◌, ◌==◌, Bool, not, bit_and, if◌then◌else◌}
 use Rattle.rv_alu.specs.declared.Mode.{Mode}
 use Rattle.rv_alu.specs.Modes.{level, mode_of}
