@@ -32,6 +32,7 @@ use outside_io::{DirFiles, StdSink, StdSource};
 pub use status::{Status, Which};
 use std::alloc::AllocError;
 use std::env;
+use std::io::ErrorKind;
 use std::process::ExitCode;
 pub use top::dromajo;
 pub use words::MOST_TURNS;
@@ -39,8 +40,10 @@ pub use words::MOST_TURNS;
 /// The words of the command line without the program's name: none where one of them is not text.
 fn command_line(rt: &HostRuntime) -> Result<Vec<String>, AllocError> {
     let mut words = Vec::new(rt.alloc());
-    let Ok(all) = env::args(rt) else {
-        return Ok(words);
+    let all = match env::args(rt) {
+        Ok(all) => all,
+        Err(error) if error.kind() == ErrorKind::OutOfMemory => return Err(AllocError),
+        Err(_) => return Ok(words),
     };
     for word in all.skip(1) {
         words.push(word)?;
