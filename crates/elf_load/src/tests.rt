@@ -174,72 +174,77 @@ fn a_cut_file_lacks_what_begins_before_its_end(rt: HostRuntime) -> Result<(), Fa
     Ok(())
 }
 
+const LAST: u64 = u64::MAX;
+
+const ENTRY: Result<u64, ElfFault> = Ok(0x8000_0008);
+
+// Two changes of the file of one segment, and what its load is answered.
+static FILE_FAULTS: [(Put, Put, Result<u64, ElfFault>); 33] = [
+    (NO, NO, ENTRY),
+    ((0, 1, 0x7e), (4, 1, 1), Err(ElfFault::NotElf)),
+    ((3, 1, 0x47), NO, Err(ElfFault::NotElf)),
+    (
+        (4, 1, 1),
+        (5, 1, 2),
+        Err(ElfFault::WrongKind(ElfField::Class)),
+    ),
+    (
+        (5, 1, 2),
+        (16, 2, 3),
+        Err(ElfFault::WrongKind(ElfField::Order)),
+    ),
+    (
+        (16, 2, 3),
+        (18, 2, 62),
+        Err(ElfFault::WrongKind(ElfField::Type2)),
+    ),
+    (
+        (18, 2, 0x1f3),
+        (54, 2, 55),
+        Err(ElfFault::WrongKind(ElfField::Machine)),
+    ),
+    (
+        (54, 2, 57),
+        (24, 8, 1),
+        Err(ElfFault::WrongKind(ElfField::Phentsize)),
+    ),
+    (
+        (24, 8, 0x8000_0001),
+        (32, 8, LAST),
+        Err(ElfFault::WrongKind(ElfField::Entry)),
+    ),
+    ((24, 8, 6), NO, Ok(6)),
+    // the table of program headers
+    ((32, 8, 80), NO, ENTRY),
+    ((32, 8, 81), NO, Err(ElfFault::Truncated(81))),
+    ((32, 8, LAST), NO, Err(ElfFault::Truncated(LAST))),
+    ((32, 8, LAST - 55), NO, Err(ElfFault::Truncated(LAST - 55))),
+    ((56, 2, 2), NO, Err(ElfFault::Truncated(64))),
+    ((56, 2, 0), (54, 2, 0), ENTRY),
+    ((56, 2, 0), (32, 8, LAST), ENTRY),
+    // the segment
+    ((96, 8, 25), NO, Err(ElfFault::Shrinks(0))),
+    ((96, 8, LAST), (104, 8, LAST - 1), Err(ElfFault::Shrinks(0))),
+    ((96, 8, 17), NO, Err(ElfFault::Truncated(120))),
+    ((72, 8, 121), (88, 8, 0), Err(ElfFault::Truncated(121))),
+    ((72, 8, LAST), NO, Err(ElfFault::Truncated(LAST))),
+    ((72, 8, LAST - 15), NO, Err(ElfFault::Truncated(LAST - 15))),
+    ((72, 8, LAST), (96, 8, 0), ENTRY),
+    ((88, 8, 0x7fff_ffff), NO, Err(ElfFault::OutsideRam(0))),
+    ((88, 8, 0x8000_0011), NO, Err(ElfFault::OutsideRam(0))),
+    ((104, 8, 25), NO, Err(ElfFault::OutsideRam(0))),
+    ((104, 8, LAST), NO, Err(ElfFault::OutsideRam(0))),
+    ((88, 8, LAST - 23), NO, Err(ElfFault::OutsideRam(0))),
+    ((88, 8, 0x8000_0000), (104, 8, 40), ENTRY),
+    // no segment to load, and one of no bytes
+    ((64, 4, 2), (96, 8, LAST), ENTRY),
+    ((64, 4, 0x101), (88, 8, 0), ENTRY),
+    ((96, 8, 0), (104, 8, 0), ENTRY),
+];
+
 #[test]
 fn each_fault_comes_in_the_order_of_the_checks(rt: HostRuntime) -> Result<(), Fail> {
-    const ENTRY: Result<u64, ElfFault> = Ok(0x8000_0008);
-    const LAST: u64 = u64::MAX;
-    for (first, second, want) in [
-        (NO, NO, ENTRY),
-        ((0, 1, 0x7e), (4, 1, 1), Err(ElfFault::NotElf)),
-        ((3, 1, 0x47), NO, Err(ElfFault::NotElf)),
-        (
-            (4, 1, 1),
-            (5, 1, 2),
-            Err(ElfFault::WrongKind(ElfField::Class)),
-        ),
-        (
-            (5, 1, 2),
-            (16, 2, 3),
-            Err(ElfFault::WrongKind(ElfField::Order)),
-        ),
-        (
-            (16, 2, 3),
-            (18, 2, 62),
-            Err(ElfFault::WrongKind(ElfField::Type2)),
-        ),
-        (
-            (18, 2, 0x1f3),
-            (54, 2, 55),
-            Err(ElfFault::WrongKind(ElfField::Machine)),
-        ),
-        (
-            (54, 2, 57),
-            (24, 8, 1),
-            Err(ElfFault::WrongKind(ElfField::Phentsize)),
-        ),
-        (
-            (24, 8, 0x8000_0001),
-            (32, 8, LAST),
-            Err(ElfFault::WrongKind(ElfField::Entry)),
-        ),
-        ((24, 8, 6), NO, Ok(6)),
-        // the table of program headers
-        ((32, 8, 80), NO, ENTRY),
-        ((32, 8, 81), NO, Err(ElfFault::Truncated(81))),
-        ((32, 8, LAST), NO, Err(ElfFault::Truncated(LAST))),
-        ((32, 8, LAST - 55), NO, Err(ElfFault::Truncated(LAST - 55))),
-        ((56, 2, 2), NO, Err(ElfFault::Truncated(64))),
-        ((56, 2, 0), (54, 2, 0), ENTRY),
-        ((56, 2, 0), (32, 8, LAST), ENTRY),
-        // the segment
-        ((96, 8, 25), NO, Err(ElfFault::Shrinks(0))),
-        ((96, 8, LAST), (104, 8, LAST - 1), Err(ElfFault::Shrinks(0))),
-        ((96, 8, 17), NO, Err(ElfFault::Truncated(120))),
-        ((72, 8, 121), (88, 8, 0), Err(ElfFault::Truncated(121))),
-        ((72, 8, LAST), NO, Err(ElfFault::Truncated(LAST))),
-        ((72, 8, LAST - 15), NO, Err(ElfFault::Truncated(LAST - 15))),
-        ((72, 8, LAST), (96, 8, 0), ENTRY),
-        ((88, 8, 0x7fff_ffff), NO, Err(ElfFault::OutsideRam(0))),
-        ((88, 8, 0x8000_0011), NO, Err(ElfFault::OutsideRam(0))),
-        ((104, 8, 25), NO, Err(ElfFault::OutsideRam(0))),
-        ((104, 8, LAST), NO, Err(ElfFault::OutsideRam(0))),
-        ((88, 8, LAST - 23), NO, Err(ElfFault::OutsideRam(0))),
-        ((88, 8, 0x8000_0000), (104, 8, 40), ENTRY),
-        // no segment to load, and one of no bytes
-        ((64, 4, 2), (96, 8, LAST), ENTRY),
-        ((64, 4, 0x101), (88, 8, 0), ENTRY),
-        ((96, 8, 0), (104, 8, 0), ENTRY),
-    ] {
+    for (first, second, want) in FILE_FAULTS {
         let mut file = one_segment(&rt);
         put(&rt, &mut file, first);
         put(&rt, &mut file, second);
@@ -404,53 +409,57 @@ fn the_first_defined_symbol_of_the_name_is_found(rt: HostRuntime) -> Result<(), 
     Ok(())
 }
 
+const FOUND: Result<Option<u64>, ElfFault> = Ok(Some(0x8000_1000));
+
+const NONE: Result<Option<u64>, ElfFault> = Ok(None);
+
+// Two changes of the file with symbols, and what the search for `tohost` is answered.
+static SYMBOL_FAULTS: [(Put, Put, Result<Option<u64>, ElfFault>); 20] = [
+    (NO, NO, FOUND),
+    ((40, 8, 0), (58, 2, 1), NONE),
+    ((60, 2, 0), (58, 2, 1), NONE),
+    (
+        (58, 2, 63),
+        (60, 2, 4),
+        Err(ElfFault::WrongKind(ElfField::Shentsize)),
+    ),
+    ((60, 2, 4), NO, Err(ElfFault::Truncated(336))),
+    ((40, 8, LAST), NO, Err(ElfFault::Truncated(LAST))),
+    (
+        (40, 8, LAST - 191),
+        NO,
+        Err(ElfFault::Truncated(LAST - 191)),
+    ),
+    // no symbol table, and an empty one first
+    ((468, 4, 11), (504, 4, 3), NONE),
+    ((340, 4, 2), NO, NONE),
+    (
+        (504, 4, 3),
+        (488, 8, 528),
+        Err(ElfFault::WrongKind(ElfField::Link)),
+    ),
+    (
+        (504, 4, 0x1_0001),
+        NO,
+        Err(ElfFault::WrongKind(ElfField::Link)),
+    ),
+    // the table, then the names
+    ((488, 8, 290), (424, 8, 506), Err(ElfFault::Truncated(290))),
+    ((496, 8, LAST), NO, Err(ElfFault::Truncated(96))),
+    ((424, 8, 506), NO, Err(ElfFault::Truncated(506))),
+    ((424, 8, LAST - 22), NO, Err(ElfFault::Truncated(LAST - 22))),
+    // nine symbols, of which two are too few, and names that end before the zero byte
+    ((496, 8, 71), NO, NONE),
+    ((496, 8, 72), NO, FOUND),
+    ((432, 8, 7), NO, NONE),
+    ((432, 8, 8), NO, FOUND),
+    // the first one undefined too
+    ((150, 2, 0), NO, Ok(Some(0x2222))),
+];
+
 #[test]
 fn each_fault_of_the_symbols_comes_in_order(rt: HostRuntime) -> Result<(), Fail> {
-    const FOUND: Result<Option<u64>, ElfFault> = Ok(Some(0x8000_1000));
-    const NONE: Result<Option<u64>, ElfFault> = Ok(None);
-    const LAST: u64 = u64::MAX;
-    for (first, second, want) in [
-        (NO, NO, FOUND),
-        ((40, 8, 0), (58, 2, 1), NONE),
-        ((60, 2, 0), (58, 2, 1), NONE),
-        (
-            (58, 2, 63),
-            (60, 2, 4),
-            Err(ElfFault::WrongKind(ElfField::Shentsize)),
-        ),
-        ((60, 2, 4), NO, Err(ElfFault::Truncated(336))),
-        ((40, 8, LAST), NO, Err(ElfFault::Truncated(LAST))),
-        (
-            (40, 8, LAST - 191),
-            NO,
-            Err(ElfFault::Truncated(LAST - 191)),
-        ),
-        // no symbol table, and an empty one first
-        ((468, 4, 11), (504, 4, 3), NONE),
-        ((340, 4, 2), NO, NONE),
-        (
-            (504, 4, 3),
-            (488, 8, 528),
-            Err(ElfFault::WrongKind(ElfField::Link)),
-        ),
-        (
-            (504, 4, 0x1_0001),
-            NO,
-            Err(ElfFault::WrongKind(ElfField::Link)),
-        ),
-        // the table, then the names
-        ((488, 8, 290), (424, 8, 506), Err(ElfFault::Truncated(290))),
-        ((496, 8, LAST), NO, Err(ElfFault::Truncated(96))),
-        ((424, 8, 506), NO, Err(ElfFault::Truncated(506))),
-        ((424, 8, LAST - 22), NO, Err(ElfFault::Truncated(LAST - 22))),
-        // nine symbols, of which two are too few, and names that end before the zero byte
-        ((496, 8, 71), NO, NONE),
-        ((496, 8, 72), NO, FOUND),
-        ((432, 8, 7), NO, NONE),
-        ((432, 8, 8), NO, FOUND),
-        // the first one undefined too
-        ((150, 2, 0), NO, Ok(Some(0x2222))),
-    ] {
+    for (first, second, want) in SYMBOL_FAULTS {
         let mut file = symbols(&rt);
         put(&rt, &mut file, first);
         put(&rt, &mut file, second);
