@@ -53,19 +53,15 @@ fn command_line(rt: &HostRuntime) -> Result<Vec<String>, AllocError> {
 
 fn main(rt: HostRuntime) -> ExitCode {
     let Ok(words) = command_line(&rt) else {
-        return ExitCode::from(Status::NoMemory.code());
+        return Status::NoMemory.exit_code();
     };
-    let mut files = DirFiles::new(&rt);
-    let mut input = StdSource::new(rt.stdin());
-    let mut out = StdSink::new(rt.stdout());
-    let mut report = StdSink::new(rt.stderr());
     let status = dromajo(
         rt.alloc(),
         &words,
-        &mut files,
-        &mut input,
-        &mut out,
-        &mut report,
+        &mut DirFiles::new(&rt),
+        &mut StdSource::new(rt.stdin()),
+        &mut StdSink::new(rt.stdout()),
+        &mut StdSink::new(rt.stderr()),
     );
-    ExitCode::from(status.code())
+    status.exit_code()
 }

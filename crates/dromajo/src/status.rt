@@ -1,10 +1,12 @@
 // How a call ended.
 
 ghost use Rattle.std.specs.Prelude.{◌≡◌};
+ghost use Rattle.std.specs.Process.{exit_status};
 ghost use Rattle.dromajo.specs.Codes.{code_of};
 
 use elf_load::ElfFault;
 use sim_config::ConfigFault;
+use std::process::ExitCode;
 
 /// The object that failed.
 #[derive(Clone, Copy, PartialEq, Eq, Debug)]
@@ -59,5 +61,12 @@ impl Status {
             Status::GuestEnded { .. } => 10,
             Status::BadHostWord { .. } => 11,
         }
+    }
+
+    /// The exit code of the program, which is the status's number.
+    pub(crate) fn exit_code(&self) -> ExitCode
+        ensures { exit_status result ≡ code_of self.now }
+    {
+        ExitCode::from(self.code())
     }
 }
