@@ -224,153 +224,156 @@ fn bad_pointers_and_pointers_at_the_last_level_lead_nowhere(rt: HostRuntime) -> 
     Ok(())
 }
 
+// The register satp, three entries with their places, an address, and what a load there is answered.
+static WALKS: [(u64, [(u64, u64); 3], u64, Result<u64, WalkFault>); 22] = [
+    // three levels
+    (
+        SATP,
+        [(ROOT, 0x20000801), (MIDDLE, 0x20000c01), (LAST, 0x20001043)],
+        0x40403234,
+        Ok(0x80004234),
+    ),
+    (
+        SATP,
+        [(ROOT, 0x20000821), (MIDDLE, 0x20000f01), (LAST, 0x20001043)],
+        0x40403234,
+        Ok(0x80004234),
+    ),
+    // a page number of 44 bits
+    (
+        SATP,
+        [
+            (ROOT, 0x20000801),
+            (MIDDLE, 0x20000c01),
+            (LAST, 0x20000020001043),
+        ],
+        0x40403234,
+        Ok(0x80000080004234),
+    ),
+    // superpages of 2 MiB and 1 GiB
+    (
+        SATP,
+        [(ROOT, 0x20000801), (MIDDLE, 0x20000043), (0x80000000, 0)],
+        0x40403234,
+        Ok(0x80003234),
+    ),
+    (
+        SATP,
+        [(ROOT, 0x20000801), (MIDDLE, 0x20000443), (0x80000000, 0)],
+        0x40403234,
+        Err(WalkFault::Page),
+    ),
+    (
+        SATP,
+        [(ROOT, 0x20000801), (MIDDLE, 0x20040043), (0x80000000, 0)],
+        0x40403234,
+        Err(WalkFault::Page),
+    ),
+    (
+        SATP,
+        [(ROOT, 0x20000801), (MIDDLE, 0x20080043), (0x80000000, 0)],
+        0x40403234,
+        Ok(0x80203234),
+    ),
+    (
+        SATP,
+        [(ROOT, 0x20000043), (0x80000000, 0), (0x80000000, 0)],
+        0x40403234,
+        Ok(0x80403234),
+    ),
+    (
+        SATP,
+        [(ROOT, 0x20000443), (0x80000000, 0), (0x80000000, 0)],
+        0x40403234,
+        Err(WalkFault::Page),
+    ),
+    (
+        SATP,
+        [(ROOT, 0x20080043), (0x80000000, 0), (0x80000000, 0)],
+        0x40403234,
+        Err(WalkFault::Page),
+    ),
+    (
+        SATP,
+        [(ROOT, 0x10000043), (0x80000000, 0), (0x80000000, 0)],
+        0x40403234,
+        Ok(0x40403234),
+    ),
+    // a table outside memory
+    (
+        SATP,
+        [(ROOT, 1), (0x80000000, 0), (0x80000000, 0)],
+        0x40403234,
+        Err(WalkFault::Access),
+    ),
+    (
+        SATP,
+        [(ROOT, 0x20000801), (MIDDLE, 0x20004001), (0x80000000, 0)],
+        0x40403234,
+        Err(WalkFault::Access),
+    ),
+    (
+        SATP,
+        [(ROOT, 0x20000801), (MIDDLE, 0x1fffffc01), (0x80000000, 0)],
+        0x40403234,
+        Err(WalkFault::Access),
+    ),
+    (
+        0x8000000000080010,
+        [(ROOT, 0x20000801), (MIDDLE, 0x20000c01), (LAST, 0x20001043)],
+        0x40403234,
+        Err(WalkFault::Access),
+    ),
+    // no entry at all
+    (
+        SATP,
+        [(0x80000000, 0), (0x80000000, 0), (0x80000000, 0)],
+        0x40403234,
+        Err(WalkFault::Page),
+    ),
+    // the high bits
+    (
+        SATP,
+        [(0x80001800, 0x20000043), (0x80000000, 0), (0x80000000, 0)],
+        0xffffffc000001234,
+        Ok(0x80001234),
+    ),
+    (
+        SATP,
+        [(0x80001800, 0x20000043), (0x80000000, 0), (0x80000000, 0)],
+        0x4000001234,
+        Err(WalkFault::Page),
+    ),
+    (
+        SATP,
+        [(ROOT, 0x20000043), (0x80000000, 0), (0x80000000, 0)],
+        0x8000000040001234,
+        Err(WalkFault::Page),
+    ),
+    (
+        SATP,
+        [(ROOT, 0x20000043), (0x80000000, 0), (0x80000000, 0)],
+        0xffffff8040001234,
+        Err(WalkFault::Page),
+    ),
+    (
+        SATP,
+        [(0x80001ff8, 0x20000043), (0x80000000, 0), (0x80000000, 0)],
+        0xffffffffffffffff,
+        Ok(0xbfffffff),
+    ),
+    // MODE Bare
+    (
+        0x80001,
+        [(0x80000000, 0), (0x80000000, 0), (0x80000000, 0)],
+        0x8000000040001234,
+        Ok(0x8000000040001234),
+    ),
+];
+
 #[test]
 fn walks_follow_pointers_to_pages_and_superpages(rt: HostRuntime) -> Result<(), Fail> {
-    for (satp, entries, va, want) in [
-        // three levels
-        (
-            SATP,
-            [(ROOT, 0x20000801), (MIDDLE, 0x20000c01), (LAST, 0x20001043)],
-            0x40403234,
-            Ok(0x80004234),
-        ),
-        (
-            SATP,
-            [(ROOT, 0x20000821), (MIDDLE, 0x20000f01), (LAST, 0x20001043)],
-            0x40403234,
-            Ok(0x80004234),
-        ),
-        // a page number of 44 bits
-        (
-            SATP,
-            [
-                (ROOT, 0x20000801),
-                (MIDDLE, 0x20000c01),
-                (LAST, 0x20000020001043),
-            ],
-            0x40403234,
-            Ok(0x80000080004234),
-        ),
-        // superpages of 2 MiB and 1 GiB
-        (
-            SATP,
-            [(ROOT, 0x20000801), (MIDDLE, 0x20000043), (0x80000000, 0)],
-            0x40403234,
-            Ok(0x80003234),
-        ),
-        (
-            SATP,
-            [(ROOT, 0x20000801), (MIDDLE, 0x20000443), (0x80000000, 0)],
-            0x40403234,
-            Err(WalkFault::Page),
-        ),
-        (
-            SATP,
-            [(ROOT, 0x20000801), (MIDDLE, 0x20040043), (0x80000000, 0)],
-            0x40403234,
-            Err(WalkFault::Page),
-        ),
-        (
-            SATP,
-            [(ROOT, 0x20000801), (MIDDLE, 0x20080043), (0x80000000, 0)],
-            0x40403234,
-            Ok(0x80203234),
-        ),
-        (
-            SATP,
-            [(ROOT, 0x20000043), (0x80000000, 0), (0x80000000, 0)],
-            0x40403234,
-            Ok(0x80403234),
-        ),
-        (
-            SATP,
-            [(ROOT, 0x20000443), (0x80000000, 0), (0x80000000, 0)],
-            0x40403234,
-            Err(WalkFault::Page),
-        ),
-        (
-            SATP,
-            [(ROOT, 0x20080043), (0x80000000, 0), (0x80000000, 0)],
-            0x40403234,
-            Err(WalkFault::Page),
-        ),
-        (
-            SATP,
-            [(ROOT, 0x10000043), (0x80000000, 0), (0x80000000, 0)],
-            0x40403234,
-            Ok(0x40403234),
-        ),
-        // a table outside memory
-        (
-            SATP,
-            [(ROOT, 1), (0x80000000, 0), (0x80000000, 0)],
-            0x40403234,
-            Err(WalkFault::Access),
-        ),
-        (
-            SATP,
-            [(ROOT, 0x20000801), (MIDDLE, 0x20004001), (0x80000000, 0)],
-            0x40403234,
-            Err(WalkFault::Access),
-        ),
-        (
-            SATP,
-            [(ROOT, 0x20000801), (MIDDLE, 0x1fffffc01), (0x80000000, 0)],
-            0x40403234,
-            Err(WalkFault::Access),
-        ),
-        (
-            0x8000000000080010,
-            [(ROOT, 0x20000801), (MIDDLE, 0x20000c01), (LAST, 0x20001043)],
-            0x40403234,
-            Err(WalkFault::Access),
-        ),
-        // no entry at all
-        (
-            SATP,
-            [(0x80000000, 0), (0x80000000, 0), (0x80000000, 0)],
-            0x40403234,
-            Err(WalkFault::Page),
-        ),
-        // the high bits
-        (
-            SATP,
-            [(0x80001800, 0x20000043), (0x80000000, 0), (0x80000000, 0)],
-            0xffffffc000001234,
-            Ok(0x80001234),
-        ),
-        (
-            SATP,
-            [(0x80001800, 0x20000043), (0x80000000, 0), (0x80000000, 0)],
-            0x4000001234,
-            Err(WalkFault::Page),
-        ),
-        (
-            SATP,
-            [(ROOT, 0x20000043), (0x80000000, 0), (0x80000000, 0)],
-            0x8000000040001234,
-            Err(WalkFault::Page),
-        ),
-        (
-            SATP,
-            [(ROOT, 0x20000043), (0x80000000, 0), (0x80000000, 0)],
-            0xffffff8040001234,
-            Err(WalkFault::Page),
-        ),
-        (
-            SATP,
-            [(0x80001ff8, 0x20000043), (0x80000000, 0), (0x80000000, 0)],
-            0xffffffffffffffff,
-            Ok(0xbfffffff),
-        ),
-        // MODE Bare
-        (
-            0x80001,
-            [(0x80000000, 0), (0x80000000, 0), (0x80000000, 0)],
-            0x8000000040001234,
-            Ok(0x8000000040001234),
-        ),
-    ] {
+    for (satp, entries, va, want) in WALKS {
         let mut ram = GuestRam::new(rt.alloc(), 0x1_0000)?;
         for (at, entry) in entries {
             put(&rt, &mut ram, at, entry);
