@@ -94,8 +94,8 @@ impl GuestRam {
         ensures inside { IsTrue result ↔ HasPart self.now at n }
         ensures test { result ≡ has_part self.now at n }
     {
-        let len = self.len();
-        at >= BASE && at - BASE <= len && n <= len - (at - BASE)
+        // an address below the region is past every length
+        at.wrapping_sub(BASE).saturating_add(n) <= self.len()
     }
 
     /// The little-endian number in the `size` bytes from `at`.

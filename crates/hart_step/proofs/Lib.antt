@@ -6,3 +6,4 @@ pub mod Steps
 pub mod Causes
 pub mod Numbers
 pub mod Kept
+pub mod Parcels

@@ -1,5 +1,7 @@
 -- What is shown of an instruction that was carried out.
-use Rattle.std.specs.Prelude.{ℕ, Option}
+use Rattle.std.specs.Prelude.{ℕ, Option, Some, None}
+use Rattle.hart_step.specs.declared.done.Shown.{Shown}
+use Rattle.hart_step.specs.declared.done.Shown.TheVariants.{Register, Store, Access}
 use Rattle.hart_step.specs.declared.event.Put.{Put}
 
 -- what its event shows: the register that it wrote, what it stored, what a device answered, and what a volatile
@@ -10,3 +12,9 @@ pub record Done : Type 0 where
   pub dv : Option ℕ
   pub vl : Option ℕ
   pub wrote : Option ℕ
+
+-- the same of what is kept by kind
+abbrev pub seen : Shown → Done
+seen (Register rd) = record { rd = rd; st = None; dv = None; vl = None; wrote = None }
+seen (Store rd st) = record { rd = rd; st = Some st; dv = None; vl = None; wrote = None }
+seen (Access rd dv vl wrote) = record { rd = rd; st = None; dv = dv; vl = vl; wrote = wrote }

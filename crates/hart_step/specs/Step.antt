@@ -1,6 +1,6 @@
 -- One step of a hart. It is a chain of small definitions: an interrupt that is given, or else what is fetched, what
 -- it decodes to, what the instruction does, and what the step then shows and leaves.
-use Rattle.std.specs.Prelude.{◌≡◌, ℕ, ◌+◌, ◌*◌, ◌%◌, ◌^◌, ◌<◌, ◌==◌, ◌&&◌, not, Bool, true, false, List, [], Option, Some, None, Result, Ok, Err, length, map, nat_lt, slice_set, if◌then◌else◌}
+use Rattle.std.specs.Prelude.{◌≡◌, ℕ, ◌+◌, ◌*◌, ◌%◌, ◌^◌, ◌==◌, ◌&&◌, not, Bool, true, false, List, [], Option, Some, None, Result, Ok, Err, length, map, nat_lt, slice_set, if◌then◌else◌}
 use Rattle.std.specs.List.{list_any}
 use Rattle.guest_ram.specs.Bytes.{has_part, number_at, with_part}
 use Rattle.byteorder.specs.Endian.{little_bytes}
@@ -15,7 +15,6 @@ use Rattle.hart_step.specs.declared.event.Event.{Event}
 use Rattle.hart_step.specs.declared.event.Put.{Put}
 use Rattle.hart_step.specs.declared.event.Event.TheVariants.{Commit, Exception as Raised, Interrupt, Host}
 use Rattle.hart_step.specs.Shown.{Done}
-use Rattle.hart_step.specs.declared.fetch.Fetched.{Fetched}
 use Rattle.hart_step.specs.declared.hart.Hart.{Hart}
 use Rattle.hart_step.specs.Answers.{Access, Given, Untouched, after_access}
 use Rattle.hart_step.specs.Harts.{CoreState, hart_of, is_in_debug, privilege_of}
@@ -39,6 +38,11 @@ parcel_from hart memory va (Err e) = Err e
 abbrev pub parcel : Hart → MemoryState → ℕ → Result ℕ Exception
 parcel hart memory va = parcel_from hart memory va (physical (acting_mode hart) Kind.Fetch hart memory.ram va)
 
+-- an instruction's word, a 16-bit one with zeros above, and its length in bytes
+pub record Fetched : Type 0 where
+  pub word : ℕ
+  pub len : ℕ
+
 -- a parcel that ends in 11 is the low half of a 32-bit word (Unprivileged ISA, "Expanded Instruction-Length
 -- Encoding"); any other is a 16-bit instruction
 abbrev pub with_high : ℕ → Result ℕ Exception → Result Fetched Exception
@@ -55,9 +59,14 @@ with_low hart memory (Ok low) =
 abbrev pub fetched : Hart → MemoryState → Result Fetched Exception
 fetched hart memory = with_low hart memory (parcel hart memory hart.pc)
 
--- the word has two bytes and zeros above them, or four
-abbrev pub IsFetched : Fetched → Type 0
-IsFetched f = (f.len % 2 ≡ 0) × (f.len ≡ 2 → f.word < 2 ^ 16)
+-- the instruction that two parcels begin with, the first one in the low half
+abbrev pub first_of : ℕ → Fetched
+first_of parcels =
+    if parcels % 4 == 3 then record { word = parcels; len = 4 } else record { word = parcels % 0x10000; len = 2 }
+
+abbrev pub begun_by : Result ℕ Exception → Result Fetched Exception
+begun_by (Ok parcels) = Ok (first_of parcels)
+begun_by (Err e) = Err e
 
 -- ---- decoding
 

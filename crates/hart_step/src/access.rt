@@ -10,7 +10,7 @@ ghost use Rattle.hart_step.specs.Harts.{IsFitHart, StaysFit};
 use crate::answers::Answers;
 use crate::arithmetic::{put_register, write};
 use crate::control::following;
-use crate::done::{Done, Stored};
+use crate::done::{Done, Stored, Written};
 use crate::exception::Exception;
 use crate::hart::Hart;
 use crate::memory::Memory;
@@ -119,13 +119,18 @@ pub(crate) fn load<A: Answers>(
     ensures rom { memory.new.rom ≡ memory.old.rom }
     ensures fit { StaysFit hart.old hart.new }
 {
+    if memory.is_direct(hart, size, va) {
+        let next = following(hart, site.len);
+        let value = extended(extension, size, memory.read(va, size));
+        return write(hart, rd, value, next);
+    }
     load_bytes(site, hart, memory, answers, size, extension, va, rd)
 }
 
 /// What is shown of a store of the low `size` bytes of a value, by an instruction that shows this register
 /// too.
 #[inline(always)]
-pub(crate) fn stored(rd: Option<(u64, u64)>, at: u64, size: u8, value: u64) -> Done
+pub(crate) fn stored(rd: Written, at: u64, size: u8, value: u64) -> Done
     requires size { IsSize size }
     requires register { IsWritten rd }
     ensures shown { result ≡ record (shows_store at size value) { rd = rd } }
@@ -162,12 +167,12 @@ fn store_bytes<A: Answers>(
     if memory.holds(at, size) {
         memory.write(at, size, value);
         hart.pc = next;
-        return Ok(stored(None, at, size, value));
+        return Ok(stored(Written::none(), at, size, value));
     }
     if listed(site.harts, at, size) {
         answers.device_store(site.hart, at, size, low_bytes(size, value), memory.ram());
         hart.pc = next;
-        return Ok(stored(None, at, size, value));
+        return Ok(stored(Written::none(), at, size, value));
     }
     Err(Exception::access(Kind::Store, va))
 }
@@ -195,5 +200,10 @@ pub(crate) fn store<A: Answers>(
     ensures rom { memory.new.rom ≡ memory.old.rom }
     ensures fit { StaysFit hart.old hart.new }
 {
+    if memory.is_direct(hart, size, va) {
+        memory.write(va, size, value);
+        hart.pc = following(hart, site.len);
+        return Ok(stored(Written::none(), va, size, value));
+    }
     store_bytes(site, hart, memory, answers, size, va, value)
 }

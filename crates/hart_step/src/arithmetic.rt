@@ -6,7 +6,7 @@ ghost use Rattle.hart_step.specs.Harts.{IsFitHart, register, shown_register, Sta
 ghost use Rattle.hart_step.specs.Effects.{shows_write, with_write};
 ghost use Rattle.hart_step.specs.Events.{IsDone, IsWritten};
 
-use crate::done::Done;
+use crate::done::{Done, Written};
 use crate::exception::Exception;
 use crate::hart::Hart;
 use rv_alu::{BinOp, MulOp, alu, mul_div};
@@ -21,7 +21,7 @@ pub(crate) fn word_of(imm: i64) -> u64
 
 /// Writes a register, and moves the pc. Answers what is shown of the register.
 #[inline(always)]
-pub(crate) fn put_register(hart: &mut Hart, rd: u8, value: u64, next: u64) -> Option<(u64, u64)>
+pub(crate) fn put_register(hart: &mut Hart, rd: u8, value: u64, next: u64) -> Written
     requires register { rd < 32 }
     requires fit { IsFitHart hart.old }
     requires even { next % 2 ≡ 0 }

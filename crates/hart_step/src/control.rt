@@ -7,7 +7,7 @@ ghost use Rattle.hart_step.specs.Effects.{at_pc, even_part, next_of, offset_by, 
 ghost use Rattle.hart_step.specs.Events.{IsDone};
 
 use crate::arithmetic::write;
-use crate::done::Done;
+use crate::done::{Done, Written};
 use crate::exception::Exception;
 use crate::hart::Hart;
 use rv_alu::{CondOp, branch};
@@ -44,7 +44,7 @@ pub(crate) fn pass(hart: &mut Hart, next: u64) -> Result<Done, Exception>
     ensures fit { StaysFit hart.old hart.new }
 {
     hart.pc = next;
-    Ok(Done::plain(None))
+    Ok(Done::plain(Written::none()))
 }
 
 /// Jumps to an offset from the pc, with the link in a register.

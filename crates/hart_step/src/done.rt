@@ -3,10 +3,80 @@
 ghost use Rattle.std.specs.Prelude.{◌≡◌, ◌<◌, None, Some};
 ghost use Rattle.guest_ram.specs.Bytes.{IsSize};
 ghost use Rattle.hart_step.specs.declared.event.Event.TheVariants.{Commit};
-ghost use Rattle.hart_step.specs.Events.{IsDone, IsEvent, IsStored, IsWritten};
+ghost use Rattle.hart_step.specs.Events.{IsDone, IsEvent, IsWritten};
+ghost use Rattle.hart_step.specs.Harts.{shown_register};
 
 use crate::event::{Event, Priv, Put};
 use std::marker::Model;
+
+/// The register that an instruction wrote with its new value, and x0 where it wrote none. The number is a
+/// word, so that no gap is copied with it.
+///
+/// Contracts see it as an event shows it: none, or a number and a value.
+#[derive(Drop)]
+pub(crate) struct Written {
+    number: u64,
+    value: u64,
+}
+
+impl Model for Written {
+    ghost use Rattle.std.specs.Prelude.{ℕ, Option};
+    ghost use Rattle.hart_step.specs.Harts.{shown_register};
+
+    ghost Value = { Option (ℕ × ℕ) };
+
+    ghost view = { λ w. shown_register w.number w.value };
+}
+
+impl Written {
+    /// No register.
+    #[inline(always)]
+    pub(crate) fn none() -> Written
+        ensures { result ≡ None }
+    {
+        Written {
+            number: 0,
+            value: 0,
+        }
+    }
+
+    /// Register x`rd`, or none for x0.
+    #[inline(always)]
+    pub(crate) fn new(rd: u8, value: u64) -> Written
+        ensures { result ≡ shown_register rd value }
+    {
+        Written {
+            number: u64::from(rd),
+            value,
+        }
+    }
+
+    /// The same as an event shows it.
+    #[inline(always)]
+    fn shown(self) -> Option<(u8, u64)>
+        requires { IsWritten self }
+        ensures { result ≡ self }
+    {
+        if self.number == 0 {
+            None
+        } else {
+            Some((self.number as u8, self.value))
+        }
+    }
+
+    /// Writes the same where an event shows it.
+    #[inline(always)]
+    fn show(self, rd: &mut Option<(u8, u64)>)
+        requires { IsWritten self }
+        ensures { rd.new ≡ self }
+    {
+        if self.number == 0 {
+            *rd = None;
+        } else {
+            *rd = Some((self.number as u8, self.value));
+        }
+    }
+}
 
 /// Bytes stored, as contracts see a `Put`. The size is a word, so that no gap is copied with it.
 #[derive(Drop)]
@@ -51,129 +121,138 @@ impl Stored {
     }
 }
 
-/// What the event of an instruction shows, and the control and status register that it wrote. The
-/// number of the register `rd` is a word, so that no gap is copied with it.
-///
-/// Contracts see it as a record of these five.
+/// What the event of an instruction shows, and the control and status register that it wrote. Contracts see
+/// it as a record of these five.
 #[derive(Drop)]
 pub(crate) struct Done {
-    /// Whether a register is all that is shown: most instructions are so, and a way of their own to the
-    /// event is what makes them fast.
-    is_plain: bool,
-    rd: Option<(u64, u64)>,
-    st: Option<Stored>,
-    dv: Option<u64>,
-    vl: Option<u64>,
-    wrote: Option<u16>,
+    shown: Shown,
+}
+
+/// The same by what there is beside the register: nothing with most instructions, and a way of their own to
+/// the event is what makes them fast.
+#[derive(Drop)]
+enum Shown {
+    /// Nothing more.
+    Register(Written),
+    /// What was stored.
+    Store(Written, Stored),
+    /// What a device answered, what a volatile register read as, and the register that was written.
+    Access {
+        rd: Written,
+        dv: Option<u64>,
+        vl: Option<u64>,
+        wrote: Option<u16>,
+    },
 }
 
 impl Model for Done {
-    ghost use Rattle.std.specs.Prelude.{◌≡◌, IsTrue, None};
-    ghost use Rattle.hart_step.specs.Shown.{Done as Seen};
+    ghost use Rattle.hart_step.specs.Shown.{Done as Seen, seen};
 
     ghost Value = { Seen };
 
-    ghost view = { λ d. record { rd = d.rd; st = d.st; dv = d.dv; vl = d.vl; wrote = d.wrote } };
-
-    ghost invariant = { λ d. IsTrue d.is_plain → (d.st ≡ None) × (d.dv ≡ None) × (d.vl ≡ None) };
+    ghost view = { λ d. seen d.shown };
 }
 
 impl Done {
     /// A register at the most is shown.
     #[inline(always)]
-    pub(crate) fn plain(rd: Option<(u64, u64)>) -> Done
+    pub(crate) fn plain(rd: Written) -> Done
         ensures { result ≡ record { rd = rd; st = None; dv = None; vl = None; wrote = None } }
     {
         Done {
-            is_plain: true,
-            rd,
-            st: None,
-            dv: None,
-            vl: None,
-            wrote: None,
+            shown: Shown::Register(rd),
         }
     }
 
     /// A register at the most, and what was stored.
     #[inline(always)]
-    pub(crate) fn stored(rd: Option<(u64, u64)>, st: Stored) -> Done
+    pub(crate) fn stored(rd: Written, st: Stored) -> Done
         ensures { result ≡ record { rd = rd; st = Some st; dv = None; vl = None; wrote = None } }
     {
         Done {
-            is_plain: false,
-            rd,
-            st: Some(st),
-            dv: None,
-            vl: None,
-            wrote: None,
+            shown: Shown::Store(rd, st),
         }
     }
 
     /// A register at the most, and what a device answered.
     #[inline(always)]
-    pub(crate) fn answered(rd: Option<(u64, u64)>, word: u64) -> Done
+    pub(crate) fn answered(rd: Written, word: u64) -> Done
         ensures { result ≡ record { rd = rd; st = None; dv = Some word; vl = None; wrote = None } }
     {
         Done {
-            is_plain: false,
-            rd,
-            st: None,
-            dv: Some(word),
-            vl: None,
-            wrote: None,
+            shown: Shown::Access {
+                rd,
+                dv: Some(word),
+                vl: None,
+                wrote: None,
+            },
         }
     }
 
     /// A register at the most, what a volatile register read as, and the register that was written.
     #[inline(always)]
-    pub(crate) fn accessed(rd: Option<(u64, u64)>, vl: Option<u64>, wrote: Option<u16>) -> Done
+    pub(crate) fn accessed(rd: Written, vl: Option<u64>, wrote: Option<u16>) -> Done
         ensures { result ≡ record { rd = rd; st = None; dv = None; vl = vl; wrote = wrote } }
     {
         Done {
-            is_plain: false,
-            rd,
-            st: None,
-            dv: None,
-            vl,
-            wrote,
+            shown: Shown::Access {
+                rd,
+                dv: None,
+                vl,
+                wrote,
+            },
         }
     }
 
-    /// The control and status register that was written.
+    /// Writes the commit of the word `insn` in the place of another event, and gives the control and status
+    /// register that was written.
     #[inline(always)]
-    pub(crate) fn wrote(&self) -> Option<u16>
-        ensures { result ≡ self.now.wrote }
-    {
-        self.wrote
-    }
-
-    /// Writes the commit of the word `insn` in the place of another event.
-    #[inline(always)]
-    pub(crate) fn show(self, event: &mut Event, hart: u8, mode: Priv, pc: u64, insn: u32)
+    pub(crate) fn show(
+        self,
+        event: &mut Event,
+        hart: u8,
+        mode: Priv,
+        pc: u64,
+        insn: u32,
+    ) -> Option<u16>
         requires number { hart < 8 }
         requires formed { IsDone self }
         ensures event { event.new ≡ Commit hart mode pc insn self.rd self.st self.dv self.vl }
         ensures formed { IsEvent event.new }
+        ensures wrote { result ≡ self.wrote }
     {
-        if self.is_plain {
-            match self.rd {
-                Some((number, value)) => {
-                    show_register(event, hart, mode, pc, insn, Some((number as u8, value)));
-                }
-                None => show_register(event, hart, mode, pc, insn, None),
+        match self.shown {
+            Shown::Register(rd) => {
+                show_register(event, hart, mode, pc, insn, rd);
+                None
             }
-            return;
+            Shown::Store(rd, st) => {
+                *event = Event::Commit {
+                    hart,
+                    mode,
+                    pc,
+                    insn,
+                    rd: rd.shown(),
+                    st: Some(st.put()),
+                    dv: None,
+                    vl: None,
+                };
+                None
+            }
+            Shown::Access { rd, dv, vl, wrote } => {
+                *event = Event::Commit {
+                    hart,
+                    mode,
+                    pc,
+                    insn,
+                    rd: rd.shown(),
+                    st: None,
+                    dv,
+                    vl,
+                };
+                wrote
+            }
         }
-        *event = Event::Commit {
-            hart,
-            mode,
-            pc,
-            insn,
-            rd: written(self.rd),
-            st: put_of(self.st),
-            dv: self.dv,
-            vl: self.vl,
-        };
     }
 }
 
@@ -186,7 +265,7 @@ fn show_register(
     privilege: Priv,
     at: u64,
     word: u32,
-    written: Option<(u8, u64)>,
+    written: Written,
 )
     requires number { number < 8 }
     requires formed { IsWritten written }
@@ -208,7 +287,7 @@ fn show_register(
         *mode = privilege;
         *pc = at;
         *insn = word;
-        *rd = written;
+        written.show(rd);
         *st = None;
         *dv = None;
         *vl = None;
@@ -219,33 +298,9 @@ fn show_register(
         mode: privilege,
         pc: at,
         insn: word,
-        rd: written,
+        rd: written.shown(),
         st: None,
         dv: None,
         vl: None,
     };
-}
-
-/// The bytes that an event shows as stored.
-#[inline]
-fn put_of(st: Option<Stored>) -> Option<Put>
-    requires { IsStored st }
-    ensures { result ≡ st }
-{
-    match st {
-        Some(stored) => Some(stored.put()),
-        None => None,
-    }
-}
-
-/// The register that an event shows as written.
-#[inline]
-fn written(rd: Option<(u64, u64)>) -> Option<(u8, u64)>
-    requires { IsWritten rd }
-    ensures { result ≡ rd }
-{
-    match rd {
-        Some((number, value)) => Some((number as u8, value)),
-        None => None,
-    }
 }

@@ -1,21 +1,26 @@
 // The fetch of one instruction's parcels, and its decoding.
 
-ghost use Rattle.std.specs.Prelude.{◌≡◌, ◌%◌, ◌<◌, ◌^◌, IfOk, IfSome};
+ghost use Rattle.std.specs.Prelude.{◌≡◌, ◌%◌, ◌<◌, IfOk, IfSome, IsTrue, Ok};
+ghost use Rattle.guest_ram.specs.Bytes.{has_part, number_at};
+ghost use Rattle.rv_alu.specs.declared.Mode.TheVariants.{M};
 ghost use Rattle.rv_decode.specs.Ranges.{IsInRange};
 ghost use Rattle.hart_step.specs.Harts.{IsFitHart};
-ghost use Rattle.hart_step.specs.Step.{IsFetched, decoded, fetched, parcel};
+ghost use Rattle.hart_step.specs.Memory.{acting_mode};
+ghost use Rattle.hart_step.specs.Step.{begun_by, decoded, fetched, first_of, parcel};
 
 use crate::exception::Exception;
 use crate::hart::Hart;
 use crate::memory::Memory;
+use rv_alu::Mode;
 use rv_decode::{Insn, decode, expand};
 use sv39_walk::Kind;
 
-/// An instruction's word, a 16-bit one with zeros above, and its length in bytes.
-#[derive(Clone, Copy)]
-pub(crate) struct Fetched {
+/// An instruction's word, a 16-bit one with zeros above, and its length in bytes, with what it stands for:
+/// none where the word stands for no instruction.
+pub(crate) struct Decoded {
     pub(crate) word: u32,
     pub(crate) len: u8,
+    pub(crate) insn: Option<Insn>,
 }
 
 /// Fetches the 16-bit parcel at `va`.
@@ -36,38 +41,80 @@ fn parcel(hart: &Hart, memory: &mut Memory, va: u64) -> Result<u64, Exception>
     Err(Exception::access(Kind::Fetch, va))
 }
 
-/// Fetches the instruction at the hart's pc, parcel by parcel.
+/// Fetches the parcels at the hart's pc, the first one in the low half; one that ends the instruction may
+/// have anything above it. Machine mode has no translation, so that both are read at once where RAM holds
+/// them.
 #[inline(always)]
-pub(crate) fn fetch(hart: &Hart, memory: &mut Memory) -> Result<Fetched, Exception>
+pub(crate) fn fetch(hart: &Hart, memory: &mut Memory) -> Result<u32, Exception>
     requires { IsFitHart hart.now }
-    ensures word { result ≡ fetched hart.now memory.old }
-    ensures lengths { IfOk result IsFetched }
+    ensures word { begun_by result ≡ fetched hart.now memory.old }
+    ensures same { memory.new ≡ memory.old }
+{
+    if hart.mode == Mode::M && memory.holds(hart.pc, 4) {
+        let parcels = memory.parcels(hart.pc);
+        see_parcel(hart, memory, hart.pc);
+        see_parcel(hart, memory, hart.pc.wrapping_add(2));
+        return Ok(parcels);
+    }
+    fetch_slowly(hart, memory)
+}
+
+/// Fetches the same in any mode. The place of what the call answers is in this function alone, so that it is
+/// not made where the call is not.
+#[inline(always)]
+fn fetch_slowly(hart: &Hart, memory: &mut Memory) -> Result<u32, Exception>
+    requires { IsFitHart hart.now }
+    ensures word { begun_by result ≡ fetched hart.now memory.old }
+    ensures same { memory.new ≡ memory.old }
+{
+    fetch_by_parcel(hart, memory)
+}
+
+/// Machine mode fetches a parcel that RAM holds.
+#[tactic(auto, unfolding(sv39_walk::specs::Plain::translated))]
+#[inline(always)]
+fn see_parcel(hart: &Hart, memory: &Memory, at: u64)
+    requires machine { acting_mode hart.now ≡ M }
+    requires inside { IsTrue (has_part memory.now.ram at 2) }
+    ensures { parcel hart.now memory.now at ≡ Ok (number_at memory.now.ram at 2) }
+{}
+
+/// Fetches the same, parcel by parcel.
+#[inline(never)]
+fn fetch_by_parcel(hart: &Hart, memory: &mut Memory) -> Result<u32, Exception>
+    requires { IsFitHart hart.now }
+    ensures word { begun_by result ≡ fetched hart.now memory.old }
     ensures same { memory.new ≡ memory.old }
 {
     let low = parcel(hart, memory, hart.pc)?;
     if low % 4 != 3 {
-        return Ok(Fetched {
-            word: low as u32,
-            len: 2,
-        });
+        return Ok(low as u32);
     }
     let high = parcel(hart, memory, hart.pc.wrapping_add(2))?;
-    Ok(Fetched {
-        word: (low + 0x1_0000 * high) as u32,
-        len: 4,
-    })
+    Ok((low + 0x1_0000 * high) as u32)
 }
 
-/// The instruction of a fetched word of `len` bytes, none where the word stands for none.
+/// The instruction that begins with two parcels.
 #[inline(always)]
-pub(crate) fn decode_fetched(word: u32, len: u8) -> Option<Insn>
-    requires { len ≡ 2 → word < 2 ^ 16 }
-    ensures row { result ≡ decoded word len }
-    ensures in_range { IfSome result IsInRange }
+pub(crate) fn decode_parcels(parcels: u32) -> Decoded
+    ensures word { result.word ≡ (first_of parcels).word }
+    ensures len { result.len ≡ (first_of parcels).len }
+    ensures row { result.insn ≡ decoded result.word result.len }
+    ensures in_range { IfSome result.insn IsInRange }
+    ensures even { result.len % 2 ≡ 0 }
 {
-    if len == 2 {
-        expand(word as u16)
+    if parcels % 4 == 3 {
+        Decoded {
+            word: parcels,
+            len: 4,
+            insn: decode(parcels),
+        }
     } else {
-        decode(word)
+        let word = parcels % 0x1_0000;
+        Decoded {
+            word,
+            len: 2,
+            insn: expand(word as u16),
+        }
     }
 }

@@ -5,6 +5,7 @@ ghost use Rattle.hart_step.specs.Harts.{is_in_debug, privilege_of, reset_hart, s
 ghost use Rattle.hart_step.specs.Events.{IsWritten};
 ghost use Rattle.hart_step.specs.Step.{without_reservation};
 
+use crate::done::Written;
 use crate::event::Priv;
 use csr_file::CsrFile;
 use rv_alu::Mode;
@@ -90,17 +91,16 @@ impl Hart {
 
     /// Writes register x`rd`, and says what was written; a write to x0 is dropped.
     #[inline(always)]
-    pub(crate) fn write(&mut self, rd: u8, value: u64) -> Option<(u64, u64)>
+    pub(crate) fn write(&mut self, rd: u8, value: u64) -> Written
         requires { rd < 32 }
         ensures hart { self.new ≡ with_register self.old rd value }
         ensures shown { result ≡ shown_register rd value }
         ensures range { IsWritten result }
     {
-        if rd == 0 {
-            return None;
+        if rd != 0 {
+            self.x[rd as usize] = value;
         }
-        self.x[rd as usize] = value;
-        Some((u64::from(rd), value))
+        Written::new(rd, value)
     }
 
     /// Drops the reservation where one of the `size` bytes from `at` lies in it.

@@ -1,18 +1,19 @@
 // Memory as the harts of a core reach it.
 
-ghost use Rattle.std.specs.Prelude.{◌≡◌, ◌==◌, ◌%◌, ◌^◌, ◌<◌, ◌*◌, ◌↔◌, IfOk, IsTrue, length, ◌≤◌, []};
+ghost use Rattle.std.specs.Prelude.{◌≡◌, ◌==◌, ◌+◌, ◌%◌, ◌^◌, ◌<◌, ◌*◌, IfOk, IsTrue, Ok, length, ◌≤◌, []};
 ghost use Rattle.byteorder.specs.Endian.{little_bytes};
 ghost use Rattle.guest_ram.specs.Bytes.{IsSize, has_part, number_at, with_part};
 ghost use Rattle.hart_step.specs.Fit.{AreBytes};
 ghost use Rattle.hart_step.specs.Memory.{data_address, most_rom, physical, ram_address, rom_holds, rom_number};
 ghost use Rattle.sv39_walk.specs.Remembered.{Agrees};
+ghost use Rattle.sv39_walk.specs.declared.Kind.TheVariants.{Load, Store};
 
 use crate::exception::Exception;
 use crate::fit::see_bytes;
 use crate::hart::Hart;
 use crate::registers::satp;
 use byteorder::{ByteOrder, LittleEndian};
-use csr_file::masks::{MSTATUS_MXR, MSTATUS_SUM};
+use csr_file::masks::{MSTATUS_MPRV, MSTATUS_MXR, MSTATUS_SUM};
 use guest_ram::{BASE, GuestRam, PageTable};
 use rv_alu::Mode;
 use std::marker::Model;
@@ -145,6 +146,21 @@ impl Memory {
         self.physical(hart, hart.data_mode(), kind, va)
     }
 
+    /// Whether a data access of `size` bytes at `va` is aligned, needs no translation and lies in RAM, as
+    /// nearly all do in machine mode.
+    #[inline(always)]
+    #[tactic(auto, unfolding(sv39_walk::specs::Plain::translated))]
+    pub(crate) fn is_direct(&self, hart: &Hart, size: u8, va: u64) -> bool
+        requires { IsSize size }
+        ensures load { IsTrue result → data_address Load size hart.now self.now.ram va ≡ Ok va }
+        ensures store { IsTrue result → data_address Store size hart.now self.now.ram va ≡ Ok va }
+        ensures aligned { IsTrue result → va % size ≡ 0 }
+        ensures inside { IsTrue result → IsTrue (has_part self.now.ram va size) }
+    {
+        let in_machine_mode = hart.mode == Mode::M && !has(mstatus(&hart.csrs), MSTATUS_MPRV);
+        is_aligned(va, size) && in_machine_mode && self.holds(va, size)
+    }
+
     /// The physical address of an access of `size` bytes that RAM alone answers.
     #[inline(never)]
     pub(crate) fn ram_address(
@@ -186,6 +202,22 @@ impl Memory {
         ensures fits { result < 256 ^ size }
     {
         self.ram.read(at, size)
+    }
+
+    /// The two 16-bit parcels from `at` in RAM, the first one in the low half.
+    #[tactic(auto, using(crate::proofs::Parcels::two_parcels))]
+    #[inline(always)]
+    pub(crate) fn parcels(&self, at: u64) -> u32
+        requires even { at % 2 ≡ 0 }
+        requires inside { IsTrue (has_part self.now.ram at 4) }
+        ensures parcels { result ≡ number_at self.now.ram at 2 + 0x10000 * number_at self.now.ram (at + 2) 2 }
+        ensures fits { number_at self.now.ram at 2 < 0x10000 }
+        ensures next { IsTrue (has_part self.now.ram ((at + 2) % 2 ^ 64) 2) × ((at + 2) % 2 ^ 64 ≡ at + 2) }
+    {
+        // nothing is made of it: it shows that the parcel fits
+        let _first = self.ram.read(at, 2);
+        let _bounded = self.ram.len();
+        LittleEndian::read_u32(self.ram.part(at, 4))
     }
 
     /// Stores the low `size` bytes of `value` in RAM, and tells the walker.

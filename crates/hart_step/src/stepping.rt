@@ -1,19 +1,19 @@
 // One step of a hart.
 
-ghost use Rattle.std.specs.Prelude.{◌≡◌, ◌%◌, ◌<◌, ◌≤◌, ◌^◌, IsFalse, IsNone, length};
+ghost use Rattle.std.specs.Prelude.{◌≡◌, ◌<◌, ◌≤◌, IsFalse, IsNone, Ok, length};
 ghost use Rattle.trap_rules.specs.Interrupt.{MayCome};
 ghost use Rattle.hart_step.specs.Answers.{given_by};
 ghost use Rattle.hart_step.specs.declared.event.Event.{Event as EventOf};
 ghost use Rattle.hart_step.specs.Events.{IsEvent};
 ghost use Rattle.hart_step.specs.Harts.{IsFitHart, StaysFit};
-ghost use Rattle.hart_step.specs.Step.{StepLeaves, decoded, enters, fetched, from_decoded, from_fetched, hart_step, retired, shows, traps};
+ghost use Rattle.hart_step.specs.Step.{StepLeaves, enters, fetched, first_of, from_fetched, hart_step, retired, traps};
 
 use crate::access::Site;
 use crate::answers::Answers;
 use crate::event::{Event, Priv};
 use crate::exception::Exception;
 use crate::execute::execute;
-use crate::fetch::{decode_fetched, fetch};
+use crate::fetch::{Decoded, decode_parcels, fetch};
 use crate::hart::Hart;
 use crate::memory::Memory;
 use trap_rules::{Cause, enter};
@@ -79,25 +79,24 @@ fn retire(hart: &mut Hart, was_in_debug: bool, wrote: Option<u16>)
     }
 }
 
-/// Carries out the fetched word at a site.
+/// Carries out the instruction that two fetched parcels begin with.
 #[inline(always)]
 fn carry_out<A: Answers>(
-    site: Site,
+    h: u8,
+    harts: u8,
+    parcels: u32,
     hart: &mut Hart,
     memory: &mut Memory,
     answers: &mut A,
     event: &mut Event,
 )
-    requires ready { A.ready answers.old site.hart }
-    requires number { site.hart < 8 }
-    requires harts { site.harts ≤ 8 }
+    requires ready { A.ready answers.old h }
+    requires number { h < 8 }
+    requires harts { harts ≤ 8 }
     requires fit { IsFitHart hart.old }
-    requires even { site.len % 2 ≡ 0 }
-    requires zeros { site.len ≡ 2 → site.word < 2 ^ 16 }
-    ensures leaves { StepLeaves A.loaded A.stored answers.old answers.new site.hart hart.new memory.new event.new
-        (shows site.hart hart.old site.word (from_decoded
-        (given_by A.interrupts A.devices A.volatiles A.wins answers.old site.hart hart.old)
-        site.harts site.len site.word hart.old memory.old (decoded site.word site.len))) }
+    ensures leaves { StepLeaves A.loaded A.stored answers.old answers.new h hart.new memory.new event.new
+        (from_fetched (given_by A.interrupts A.devices A.volatiles A.wins answers.old h hart.old)
+        harts h hart.old memory.old (Ok (first_of parcels))) }
     ensures formed { IsEvent event.new }
     ensures length { length memory.new.ram ≡ length memory.old.ram }
     ensures rom { memory.new.rom ≡ memory.old.rom }
@@ -106,18 +105,24 @@ fn carry_out<A: Answers>(
     let pc = hart.pc;
     let mode = hart.privilege();
     let was_in_debug = hart.is_in_debug();
-    let Some(insn) = decode_fetched(site.word, site.len) else {
-        let exception = Exception::illegal(site.word);
-        take_exception(site.hart, hart, mode, pc, &exception, event);
+    let Decoded { word, len, insn } = decode_parcels(parcels);
+    let Some(insn) = insn else {
+        let exception = Exception::illegal(word);
+        take_exception(h, hart, mode, pc, &exception, event);
         return;
+    };
+    let site = Site {
+        hart: h,
+        harts,
+        word,
+        len,
     };
     match execute(site, insn, hart, memory, answers) {
         Ok(done) => {
-            let wrote = done.wrote();
-            done.show(event, site.hart, mode, pc, site.word);
+            let wrote = done.show(event, h, mode, pc, word);
             retire(hart, was_in_debug, wrote);
         }
-        Err(exception) => take_exception(site.hart, hart, mode, pc, &exception, event),
+        Err(exception) => take_exception(h, hart, mode, pc, &exception, event),
     }
 }
 
@@ -144,15 +149,7 @@ fn run_instruction<A: Answers>(
     ensures fit { StaysFit hart.old hart.new }
 {
     match fetch(hart, memory) {
-        Ok(fetched) => {
-            let site = Site {
-                hart: h,
-                harts,
-                word: fetched.word,
-                len: fetched.len,
-            };
-            carry_out(site, hart, memory, answers, event);
-        }
+        Ok(parcels) => carry_out(h, harts, parcels, hart, memory, answers, event),
         Err(exception) => {
             let pc = hart.pc;
             let mode = hart.privilege();
@@ -164,7 +161,7 @@ fn run_instruction<A: Answers>(
 /// Takes one step of hart number `h`, on a board of `harts` harts: the interrupt that is given, or else
 /// one instruction.
 #[tactic(auto, using(crate::proofs::Causes::taken_small, crate::proofs::Outside::taken_outside), unfolding(crate::specs::Step::hart_step))]
-#[inline(never)]
+#[inline(always)]
 pub(crate) fn step_hart<A: Answers>(
     h: u8,
     harts: u8,
