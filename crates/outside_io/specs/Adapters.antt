@@ -1,7 +1,8 @@
 -- What an adapter holds: the standard library's object, and its counts of faults.
-use Rattle.std.specs.Prelude.{ℕ}
+use Rattle.std.specs.Prelude.{◌≡◌, ℕ, List, Option, IfSome, string_bytes}
 use Rattle.outside_io.specs.declared.adapters.StdSource.{StdSource}
 use Rattle.outside_io.specs.declared.adapters.StdSink.{StdSink}
+use Rattle.outside_io.specs.declared.adapters.KeptFile.{KeptFile}
 use Rattle.outside_io.specs.declared.adapters.DirFiles.{DirFiles}
 
 -- the reader that it reads from
@@ -31,3 +32,11 @@ dir_files_read_faults files = files.read_faults
 -- its count of writing faults
 abbrev pub dir_files_write_faults : {R File Dir : Type 0} → DirFiles R File Dir → ℕ
 dir_files_write_faults files = files.write_faults
+
+-- the file that stays open to be appended to, if one does
+abbrev pub dir_files_kept : {R File Dir : Type 0} → DirFiles R File Dir → Option (KeptFile File)
+dir_files_kept files = files.kept
+
+-- the file was opened by this name, where it keeps one
+abbrev pub IsOpenedBy : {File : Type 0} → List ℕ → KeptFile File → Type 0
+IsOpenedBy path kept = IfSome kept.name (λ name. string_bytes name ≡ path)

@@ -1,11 +1,12 @@
 // The outside of the program over the standard library: streams, and the files of the system.
-ghost use Rattle.std.specs.Prelude.{◌≡◌, ◌≤◌, ℕ, List, length, take, Option, None, IfOk, IfSome, OnOk, OnErr, IsErrOf};
+ghost use Rattle.std.specs.Prelude.{◌≡◌, ◌≤◌, ◌↔◌, ℕ, List, length, take, Option, Some, None, IfOk, IfSome, OnOk, OnErr, IsErrOf, IsTrue, IsNone, IsSomeAnd, string_bytes};
+ghost use Rattle.std.specs.Option.{option_map};
 ghost use Rattle.std.specs.Io.{ReadsAtMost};
 ghost use Rattle.std.specs.Io.KnownBytes.{ReadConsumes, Appends};
 ghost use Rattle.outside_io.specs.declared.OutFault.TheVariants.{Failed, NoMemory};
 ghost use Rattle.outside_io.specs.Causes.{HasCause, CountsFailed};
 ghost use Rattle.outside_io.specs.Content.{Told};
-ghost use Rattle.outside_io.specs.Adapters.{std_source_reader, std_source_faults, std_sink_writer, std_sink_faults, dir_files_runtime, dir_files_read_faults, dir_files_write_faults};
+ghost use Rattle.outside_io.specs.Adapters.{std_source_reader, std_source_faults, std_sink_writer, std_sink_faults, dir_files_runtime, dir_files_read_faults, dir_files_write_faults, dir_files_kept, IsOpenedBy};
 
 use crate::calls::count_fault;
 use crate::streams::{fill, read_once, write_whole};
@@ -135,7 +136,10 @@ fn read_file<R: FileAccess>(runtime: &R, path: &str, at: u64, buf: &mut [u8]) ->
 }
 
 impl<F> KeptFile<F> {
-    fn has_name(&self, path: &str) -> bool {
+    // Whether it keeps this name.
+    fn has_name(&self, path: &str) -> bool
+        ensures { IsTrue result ↔ (option_map string_bytes self.now.name ≡ Some path.now) }
+    {
         matches!(&self.name, Some(name) if name.as_str() == path)
     }
 }
@@ -144,7 +148,9 @@ impl<F> KeptFile<F> {
 fn open_to_append<R: FileAccess + AllocGlobal>(
     runtime: &R,
     path: &str,
-) -> io::Result<KeptFile<R::File>> {
+) -> io::Result<KeptFile<R::File>>
+    ensures { IfOk result (IsOpenedBy path.now) }
+{
     let file = OpenOptions::new().append(true).open(runtime, path)?;
     let name = String::from_str(runtime.alloc(), path).ok();
     Ok(KeptFile { name, file })
@@ -152,10 +158,9 @@ fn open_to_append<R: FileAccess + AllocGlobal>(
 
 // Makes a file where there is none, empties it, and opens it to append to. It stays open in between,
 // so that the reader of a pipe sees no end.
-fn start_file<R: FileAccess + AllocGlobal>(
-    runtime: &R,
-    path: &str,
-) -> io::Result<KeptFile<R::File>> {
+fn start_file<R: FileAccess + AllocGlobal>(runtime: &R, path: &str) -> io::Result<KeptFile<R::File>>
+    ensures { IfOk result (IsOpenedBy path.now) }
+{
     let _emptied = fs::create(runtime, path)?;
     open_to_append(runtime, path)
 }
@@ -167,7 +172,10 @@ fn append_to_file<R: FileAccess + AllocGlobal>(
     kept: &mut Option<KeptFile<R::File>>,
     path: &str,
     piece: &[u8],
-) -> io::Result<()> {
+) -> io::Result<()>
+    ensures open { OnOk result (IsSomeAnd kept.new (IsOpenedBy path.now)) }
+    ensures closed { OnErr result (IsNone kept.new) }
+{
     let mut last = match kept.take() {
         Some(last) if last.has_name(path) => last,
         _ => open_to_append(runtime, path)?,
@@ -183,6 +191,7 @@ impl<R: FileAccess + AllocGlobal + Drop> DirFiles<R> {
         ensures runtime { dir_files_runtime result ≡ runtime }
         ensures read_count { dir_files_read_faults result ≡ 0 }
         ensures write_count { dir_files_write_faults result ≡ 0 }
+        ensures none_kept { IsNone (dir_files_kept result) }
     {
         DirFiles {
             runtime,
@@ -206,6 +215,7 @@ impl<R: FileAccess + AllocGlobal + Drop> Files for DirFiles<R> {
         ensures never_starved { IsErrOf result NoMemory → ⊥ }
         ensures count { CountsFailed (dir_files_read_faults self.old) (dir_files_read_faults self.new) result }
         ensures other_count { dir_files_write_faults self.new ≡ dir_files_write_faults self.old }
+        ensures kept { dir_files_kept self.new ≡ dir_files_kept self.old }
     {
         match file_size(&self.runtime, name) {
             Ok(size) => Ok(size),
@@ -221,6 +231,7 @@ impl<R: FileAccess + AllocGlobal + Drop> Files for DirFiles<R> {
         ensures never_starved { IsErrOf result NoMemory → ⊥ }
         ensures count { CountsFailed (dir_files_read_faults self.old) (dir_files_read_faults self.new) result }
         ensures other_count { dir_files_write_faults self.new ≡ dir_files_write_faults self.old }
+        ensures kept { dir_files_kept self.new ≡ dir_files_kept self.old }
     {
         match read_file(&self.runtime, name, at, buf) {
             Ok(count) => Ok(count),
@@ -235,6 +246,8 @@ impl<R: FileAccess + AllocGlobal + Drop> Files for DirFiles<R> {
         ensures never_starved { IsErrOf result NoMemory → ⊥ }
         ensures count { CountsFailed (dir_files_write_faults self.old) (dir_files_write_faults self.new) result }
         ensures other_count { dir_files_read_faults self.new ≡ dir_files_read_faults self.old }
+        ensures open { OnOk result (IsSomeAnd (dir_files_kept self.new) (IsOpenedBy name.now)) }
+        ensures closed { OnErr result (IsNone (dir_files_kept self.new)) }
     {
         self.kept = None;
         match start_file(&self.runtime, name) {
@@ -256,6 +269,8 @@ impl<R: FileAccess + AllocGlobal + Drop> Files for DirFiles<R> {
         ensures never_starved { IsErrOf result NoMemory → ⊥ }
         ensures count { CountsFailed (dir_files_write_faults self.old) (dir_files_write_faults self.new) result }
         ensures other_count { dir_files_read_faults self.new ≡ dir_files_read_faults self.old }
+        ensures open { OnOk result (IsSomeAnd (dir_files_kept self.new) (IsOpenedBy name.now)) }
+        ensures closed { OnErr result (IsNone (dir_files_kept self.new)) }
     {
         match append_to_file(&self.runtime, &mut self.kept, name, piece) {
             Ok(()) => Ok(()),

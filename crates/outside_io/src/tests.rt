@@ -58,6 +58,68 @@ impl Write for SlowWriter<'_> {
     }
 }
 
+// A reader that fails at its first call and each second one after it, and else fills the buffer. It
+// counts its calls.
+#[derive(Drop)]
+struct UnsteadyReader<'a> {
+    kind: ErrorKind,
+    calls: &'a mut u64,
+}
+
+impl Read for UnsteadyReader<'_> {
+    fn read(&mut self, buf: &mut [u8]) -> io::Result<usize> {
+        *self.calls = self.calls.wrapping_add(1);
+        if *self.calls % 2 == 1 {
+            return Err(io::Error::from(self.kind));
+        }
+        buf.fill(b'x');
+        Ok(buf.len())
+    }
+}
+
+// A writer that takes so many bytes at a time. Where it has an error to answer, it fails at its
+// first call and each second one after it. It counts its calls.
+#[derive(Drop)]
+struct NarrowWriter<'a> {
+    taken: &'a mut Vec<u8>,
+    most: usize,
+    failure: Option<ErrorKind>,
+    calls: &'a mut u64,
+}
+
+impl Write for NarrowWriter<'_> {
+    fn write(&mut self, buf: &[u8]) -> io::Result<usize> {
+        *self.calls = self.calls.wrapping_add(1);
+        if let Some(kind) = self.failure
+            && *self.calls % 2 == 1
+        {
+            return Err(io::Error::from(kind));
+        }
+        let count = buf.len().min(self.most);
+        match self.taken.extend_from_slice(&buf[..count]) {
+            Ok(()) => Ok(count),
+            Err(_) => Err(io::Error::from(ErrorKind::OutOfMemory)),
+        }
+    }
+
+    fn flush(&mut self) -> io::Result<()> {
+        Ok(())
+    }
+}
+
+// Errors of which none is that of a signal.
+static FAILURES: [ErrorKind; 6] = [
+    ErrorKind::WouldBlock,
+    ErrorKind::TimedOut,
+    ErrorKind::UnexpectedEof,
+    ErrorKind::WriteZero,
+    ErrorKind::BrokenPipe,
+    ErrorKind::Other,
+];
+
+// The lengths of long pieces.
+static LENGTHS: [usize; 4] = [255, 256, 65_537, 1_000_000];
+
 // One read into a buffer of eight bytes or fewer gives these bytes, or fails.
 fn expect_read<S: Source>(rt: &impl Abort, source: &mut S, room: usize, want: Option<&[u8]>) {
     let mut buf = [b'-'; 8];
@@ -245,6 +307,88 @@ fn a_writer_is_a_sink_and_its_errors_are_faults(rt: HostRuntime) {
     expect_write(&rt, &mut output, b"", Ok(()));
     let mut errors = StdSink::new(rt.stderr());
     expect_write(&rt, &mut errors, b"", Ok(()));
+}
+
+#[test]
+fn a_reader_that_fails_is_not_asked_again_in_the_same_read(rt: HostRuntime) {
+    for kind in FAILURES.iter() {
+        let mut calls = 0;
+        let mut source = StdSource::new(UnsteadyReader {
+            kind: *kind,
+            calls: &mut calls,
+        });
+        expect_read(&rt, &mut source, 2, None);
+        expect_read(&rt, &mut source, 2, Some(b"xx"));
+        expect_read(&rt, &mut source, 8, None);
+        expect_read(&rt, &mut source, 8, Some(b"xxxxxxxx"));
+        assert_eq!(rt; calls, 4);
+    }
+}
+
+#[test]
+fn a_writer_that_fails_is_not_asked_again_in_the_same_write(rt: HostRuntime) {
+    for kind in FAILURES.iter() {
+        let mut calls = 0;
+        let mut taken = Vec::new(rt.alloc());
+        let mut sink = StdSink::new(NarrowWriter {
+            taken: &mut taken,
+            most: 2,
+            failure: Some(*kind),
+            calls: &mut calls,
+        });
+        expect_write(&rt, &mut sink, b"ab", Err(OutFault::Failed));
+        expect_write(&rt, &mut sink, b"cd", Ok(()));
+        expect_write(&rt, &mut sink, b"ef", Err(OutFault::Failed));
+        expect_write(&rt, &mut sink, b"ghi", Err(OutFault::Failed));
+        assert_eq!(rt; calls, 5);
+        assert_eq!(rt; taken.as_slice(), b"cdgh".as_slice());
+    }
+}
+
+#[test]
+fn a_long_piece_goes_whole_to_a_writer(rt: HostRuntime) -> Result<(), Fail> {
+    for len in LENGTHS.iter() {
+        let piece = vec![in rt.alloc(); b'x'; *len]?;
+        let mut calls = 0;
+        let mut taken = Vec::new(rt.alloc());
+        let mut sink = StdSink::new(NarrowWriter {
+            taken: &mut taken,
+            most: 4096,
+            failure: None,
+            calls: &mut calls,
+        });
+        expect_write(&rt, &mut sink, &piece, Ok(()));
+        assert!(rt; taken.as_slice() == piece.as_slice(), "{len} bytes");
+    }
+    Ok(())
+}
+
+#[test]
+fn a_long_piece_comes_whole_from_a_reader(rt: HostRuntime) -> Result<(), Fail> {
+    for len in LENGTHS.iter() {
+        let piece = vec![in rt.alloc(); b'x'; *len]?;
+        let mut buf = vec![in rt.alloc(); b'-'; *len]?;
+        let mut source = StdSource::new(piece.as_slice());
+        assert_eq!(rt; source.read(&mut buf), Ok(*len));
+        assert!(rt; buf.as_slice() == piece.as_slice(), "{len} bytes");
+    }
+    Ok(())
+}
+
+#[test]
+fn a_long_piece_goes_whole_to_a_file_and_back(rt: HostRuntime) -> Result<(), Fail> {
+    let mut files = DirFiles::new(&rt);
+    for len in LENGTHS.iter() {
+        let piece = vec![in rt.alloc(); b'x'; *len]?;
+        let mut buf = vec![in rt.alloc(); b'-'; *len]?;
+        expect_change(&rt, &mut files, "long", None, Ok(()));
+        expect_change(&rt, &mut files, "long", Some(&piece), Ok(()));
+        expect_size(&rt, &mut files, "long", Ok(*len as u64));
+        assert_eq!(rt; files.read_at("long", 0, &mut buf), Ok(*len));
+        assert!(rt; buf.as_slice() == piece.as_slice(), "{len} bytes");
+    }
+    fs::remove_file(&rt, "long")?;
+    Ok(())
 }
 
 #[test]
