@@ -24,6 +24,12 @@ mod step_tests_traps;
 mod step_tests_words;
 #[cfg(test)]
 mod tests;
+#[cfg(test)]
+mod tests_reset;
+#[cfg(test)]
+mod tests_timer;
+#[cfg(test)]
+mod tests_window;
 
 pub use laws::board_is_allowed;
 pub use machine::{Machine, NoMemory, TurnEnd};

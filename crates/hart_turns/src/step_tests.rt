@@ -12,8 +12,21 @@ use guest_ram::{BASE, GuestRam};
 use hart_step::{Answers, Core, Event, Priv, Put};
 use rv_alu::{Mode, low_bytes};
 use std::alloc::{AllocError, Global};
+use std::fmt::Debug;
 use std::process::Abort;
 use trap_rules::pick;
+
+/// Compares what is there with what should be; words and a number say where. Each `assert_eq!` costs the
+/// check seconds, a call of this one hardly any.
+pub(crate) fn same<T: PartialEq + Debug>(
+    rt: &impl Abort,
+    got: &T,
+    want: &T,
+    what: &str,
+    number: u64,
+) {
+    assert_eq!(rt; *got, *want, "{what} {number}");
+}
 
 /// What every device register answers, cut to its size.
 const DEVICE: u64 = 0x9182_7364_d5c6_b7a8;
@@ -147,16 +160,8 @@ pub(crate) fn event_of(row: Row) -> Event {
             insn,
             rd: written(did),
             st: put(did),
-            dv: if let Did::Loaded(_, _, word) = did {
-                Some(word)
-            } else {
-                None
-            },
-            vl: if let Did::Saw(_, _, word) = did {
-                Some(word)
-            } else {
-                None
-            },
+            dv: answered(did),
+            vl: seen(did),
         },
     }
 }
@@ -179,7 +184,23 @@ fn put(did: Did) -> Option<Put> {
     }
 }
 
-pub(crate) fn put_number(ram: &mut GuestRam, at: u64, value: u64) {
+/// What a device answered.
+fn answered(did: Did) -> Option<u64> {
+    match did {
+        Did::Loaded(_, _, word) => Some(word),
+        _ => None,
+    }
+}
+
+/// What a volatile register read as.
+fn seen(did: Did) -> Option<u64> {
+    match did {
+        Did::Saw(_, _, word) => Some(word),
+        _ => None,
+    }
+}
+
+fn put_number(ram: &mut GuestRam, at: u64, value: u64) {
     if at % 8 == 0 && ram.has(at, 8) {
         ram.write(at, 8, value);
     }
@@ -201,13 +222,13 @@ fn put_word(ram: &mut GuestRam, at: u64, word: u32) {
 
 fn put_words(ram: &mut GuestRam, words: &[u32]) {
     let mut at = BASE;
-    for word in words.iter().copied() {
+    for &word in words {
         put_word(ram, at, word);
         at = at.wrapping_add(4);
     }
 }
 
-pub(crate) fn number_from(ram: &GuestRam, at: u64) -> u64 {
+fn number_from(ram: &GuestRam, at: u64) -> u64 {
     if at % 8 == 0 && ram.has(at, 8) {
         ram.read(at, 8)
     } else {
@@ -215,48 +236,50 @@ pub(crate) fn number_from(ram: &GuestRam, at: u64) -> u64 {
     }
 }
 
+/// Compares a number in memory.
+pub(crate) fn holds(rt: &impl Abort, ram: &GuestRam, at: u64, want: u64) {
+    same(rt, &number_from(ram, at), &want, "number at", at);
+}
+
 /// A memory with these numbers, each at its address, and the word of each row at the row's pc.
-pub(crate) fn memory_of(
-    alloc: Global,
-    data: &[(u64, u64)],
-    rows: &[Row],
-) -> Result<GuestRam, AllocError> {
+fn memory_of(alloc: Global, data: &[(u64, u64)], rows: &[Row]) -> Result<GuestRam, AllocError> {
     let mut ram = GuestRam::new(alloc, 0x1_0000)?;
-    for (_, _, pc, word, _) in rows.iter().copied() {
+    for &(_, _, pc, word, _) in rows {
         if word != 0 {
             put_word(&mut ram, pc, word);
         }
     }
-    for (at, value) in data.iter().copied() {
+    for &(at, value) in data {
         put_number(&mut ram, at, value);
     }
     Ok(ram)
 }
 
 /// Harts at reset over a memory, 1 to 8 of them.
-pub(crate) fn core_of(
-    rt: &impl Abort,
-    alloc: Global,
-    harts: u8,
-    ram: GuestRam,
-) -> Result<Core, AllocError> {
+fn core_of(rt: &impl Abort, alloc: Global, harts: u8, ram: GuestRam) -> Result<Core, AllocError> {
     assert!(rt; 0 < harts && harts <= 8);
     Core::new(alloc, harts, ram, BASE)
 }
 
 /// One step of a hart.
-pub(crate) fn stepped(rt: &impl Abort, core: &mut Core, h: u8, fixed: &mut Fixed) -> Event {
+fn stepped(rt: &impl Abort, core: &mut Core, h: u8, fixed: &mut Fixed) -> Event {
     assert!(rt; h < core.harts());
     core.step(h, fixed)
 }
 
 /// How many device loads and stores what was done is, and what it stores in the device.
-pub(crate) fn calls_of(did: Did) -> (u64, u64, u64) {
+fn calls_of(did: Did) -> (u64, u64, u64) {
     match did {
         Did::Loaded(_, _, _) => (1, 0, 0),
         Did::Stored(at, _, value) => { if at < BASE { (0, 1, value) } else { (0, 0, 0) } }
         _ => (0, 0, 0),
     }
+}
+
+/// Compares the device calls of a step with what it did.
+fn called(rt: &impl Abort, fixed: &Fixed, did: Did, number: u64) {
+    let calls = (fixed.loads, fixed.stores, fixed.last);
+    same(rt, &calls, &calls_of(did), "device calls of", number);
 }
 
 /// Compares a step, and its device calls, with a row.
@@ -265,12 +288,8 @@ pub(crate) fn compare(rt: &impl Abort, core: &mut Core, fixed: &mut Fixed, row: 
     fixed.stores = 0;
     fixed.last = 0;
     let event = stepped(rt, core, row.0, fixed);
-    assert_eq!(rt; event, event_of(row), "step {count}");
-    assert_eq!(rt;
-        (fixed.loads, fixed.stores, fixed.last),
-        calls_of(row.4),
-        "calls of step {count}"
-    );
+    same(rt, &event, &event_of(row), "step", count);
+    called(rt, fixed, row.4, count);
 }
 
 /// The reservation that a row asks for in place of a step.
@@ -282,15 +301,24 @@ fn held(did: Did) -> Option<Option<u64>> {
     }
 }
 
+/// Compares the reservation of a hart.
+pub(crate) fn reserves(rt: &impl Abort, core: &Core, h: u8, want: Option<u64>, count: u64) {
+    assert!(rt; h < core.harts());
+    same(
+        rt,
+        &core.reservation(h),
+        &want,
+        "reservation before step",
+        count,
+    );
+}
+
 /// Takes the steps of the rows, from reset on, and compares each.
-pub(crate) fn replay(rt: &impl Abort, mut core: Core, fixed: &mut Fixed, rows: &[Row]) -> Core {
+fn replay(rt: &impl Abort, mut core: Core, fixed: &mut Fixed, rows: &[Row]) -> Core {
     let mut count = 0u64;
-    for row in rows.iter().copied() {
+    for &row in rows {
         match held(row.4) {
-            Some(reservation) => {
-                assert!(rt; row.0 < core.harts());
-                assert_eq!(rt; core.reservation(row.0), reservation, "before step {count}");
-            }
+            Some(reservation) => reserves(rt, &core, row.0, reservation, count),
             None => {
                 compare(rt, &mut core, fixed, row, count);
                 count = count.wrapping_add(1);
@@ -305,6 +333,8 @@ pub(crate) fn replay(rt: &impl Abort, mut core: Core, fixed: &mut Fixed, rows: &
 pub(crate) struct Start<'a> {
     pub(crate) harts: u8,
     pub(crate) live: u64,
+    /// Whether a store-conditional succeeds.
+    pub(crate) wins: bool,
     pub(crate) data: &'a [(u64, u64)],
 }
 
@@ -312,6 +342,7 @@ pub(crate) struct Start<'a> {
 pub(crate) const PLAIN: Start<'static> = Start {
     harts: 1,
     live: 0,
+    wins: true,
     data: &[],
 };
 
@@ -320,6 +351,7 @@ pub(crate) fn with_data(harts: u8, data: &[(u64, u64)]) -> Start<'_> {
     Start {
         harts,
         live: 0,
+        wins: true,
         data,
     }
 }
@@ -334,18 +366,46 @@ pub(crate) fn run(
     let ram = memory_of(alloc, start.data, rows)?;
     let core = core_of(rt, alloc, start.harts, ram)?;
     let mut fixed = Fixed::new(start.live);
+    fixed.wins = start.wins;
     Ok(replay(rt, core, &mut fixed, rows))
+}
+
+/// The same, where what they leave is not looked at.
+pub(crate) fn run_rows(
+    rt: &impl Abort,
+    alloc: Global,
+    start: Start<'_>,
+    rows: &[Row],
+) -> Result<(), AllocError> {
+    let _ = run(rt, alloc, start, rows)?;
+    Ok(())
+}
+
+/// The same, where the kept `mcycle` and `minstret` of hart 0 are these in the end.
+pub(crate) fn run_counted(
+    rt: &impl Abort,
+    alloc: Global,
+    start: Start<'_>,
+    rows: &[Row],
+    want: (u64, u64),
+) -> Result<(), AllocError> {
+    let core = run(rt, alloc, start, rows)?;
+    assert!(rt; 0 < core.harts());
+    let counters = kept_counters(core.hart(0).csrs());
+    same(
+        rt,
+        &counters,
+        &want,
+        "cycles and instructions of",
+        rows.len() as u64,
+    );
+    Ok(())
 }
 
 /// The kept `mcycle` and `minstret` of hart 0.
 #[tactic(auto, unfolding(csr_file::specs::Legal::keeps_value, csr_file::specs::Legal::slots, csr_file::specs::Legal::kept_slots, csr_file::specs::Kept::kept_value, csr_file::specs::Numbers::is_listed))]
 fn kept_counters(csrs: &CsrFile) -> (u64, u64) {
     (csrs.kept(MCYCLE), csrs.kept(MINSTRET))
-}
-
-pub(crate) fn counters(rt: &impl Abort, core: &Core) -> (u64, u64) {
-    assert!(rt; 0 < core.harts());
-    kept_counters(core.hart(0).csrs())
 }
 
 /// Where the word that is tried stands, and where the data before it.
@@ -423,24 +483,18 @@ pub(crate) type Word = (u32, u64, u64, Did, u64);
 /// Tries a word, which leaves the data as they are.
 pub(crate) fn try_row(rt: &impl Abort, alloc: Global, row: Word) -> Result<(), AllocError> {
     let (word, a, b, did, next) = row;
+    let number = u64::from(word);
     let mut fixed = Fixed::new(0);
     let shown = try_word(rt, alloc, &mut fixed, word, a, b)?;
-    assert_eq!(rt;
-        shown.event,
-        event_of((0, Priv::M, WORD_AT, word, did)),
-        "{word}"
-    );
-    assert_eq!(rt; shown.next, next, "{word}");
-    assert_eq!(rt;
-        (fixed.loads, fixed.stores, fixed.last),
-        calls_of(did),
-        "{word}"
-    );
+    let want = event_of((0, Priv::M, WORD_AT, word, did));
+    same(rt, &shown.event, &want, "event of", number);
+    same(rt, &shown.next, &next, "pc after", number);
+    called(rt, &fixed, did, number);
     Ok(())
 }
 
 pub(crate) fn try_rows(rt: &impl Abort, alloc: Global, rows: &[Word]) -> Result<(), AllocError> {
-    for row in rows.iter().copied() {
+    for &row in rows {
         try_row(rt, alloc, row)?;
     }
     Ok(())
@@ -492,7 +546,7 @@ fn entering(
     put_number(&mut ram, BASE + 0x108, before.status);
     put_number(&mut ram, BASE + 0x110, before.satp);
     put_number(&mut ram, BASE + 0x118, before.counters);
-    for (at, value) in data.iter().copied() {
+    for &(at, value) in data {
         put_number(&mut ram, at, value);
     }
     Ok(ram)
@@ -527,6 +581,17 @@ fn status_after(before: Before) -> u64 {
     0xa_0000_0000 | left | if enabled { 0x80 } else { 0 }
 }
 
+/// Compares what an exception of a word that was tried in a mode left.
+fn raised(rt: &impl Abort, core: &Core, before: Before, tried: (u8, u64), number: u64) {
+    assert!(rt; 0 < core.harts());
+    let hart = core.hart(0);
+    let (cause, tval) = tried;
+    same(rt, &hart.pc(), &0, "handler of", number);
+    same(rt, &hart.mode(), &Mode::M, "mode after", number);
+    let want = (BASE + 0x30, u64::from(cause), tval, status_after(before));
+    same(rt, &trap_registers(hart.csrs()), &want, "trap of", number);
+}
+
 /// Tries a word in a mode; an exception goes to machine mode at address 0.
 pub(crate) fn try_in(
     rt: &impl Abort,
@@ -542,18 +607,8 @@ pub(crate) fn try_in(
     let mut core = set_up(rt, core, &mut fixed, 12);
     let row = (0, before.mode, BASE + 0x30, word, did);
     compare(rt, &mut core, &mut fixed, row, u64::from(word));
-    assert!(rt; 0 < core.harts());
     if let Did::Raised(cause, tval) = did {
-        assert_eq!(rt;
-            (core.hart(0).pc(), core.hart(0).mode()),
-            (0, Mode::M),
-            "{word}"
-        );
-        assert_eq!(rt;
-            trap_registers(core.hart(0).csrs()),
-            (BASE + 0x30, u64::from(cause), tval, status_after(before)),
-            "{word}"
-        );
+        raised(rt, &core, before, (cause, tval), u64::from(word));
     }
     Ok(core)
 }

@@ -2,7 +2,7 @@
 
 use crate::step_tests::Did::{Holds, HoldsNothing, Passed, Raised, Stored, Updated, Wrote};
 use crate::step_tests::{
-    Did, Fixed, Row, compare, core_of, memory_of, number_from, replay, run, with_data,
+    Did, Fixed, PLAIN, Row, Start, compare, holds, reserves, run, run_rows, with_data,
 };
 use guest_ram::BASE;
 use hart_step::Priv::M;
@@ -13,14 +13,16 @@ use std::process::Abort;
 /// Where the bytes of an atomic operation stand.
 const PLACE: u64 = 0x8000_0110;
 
-/// Makes x10 the place and x11 the number at 0x108, and then carries out the word.
+/// Makes x10 the place and x11 the number at 0x108, carries out the word, and compares what is left at the
+/// place.
 fn operate(
     rt: &impl Abort,
     alloc: Global,
     word: u32,
     pair: (u64, u64),
     did: Did,
-) -> Result<u64, AllocError> {
+    left: u64,
+) -> Result<(), AllocError> {
     let rows = [
         (0, Priv::M, BASE, 0x0000_0f97, Did::Wrote(31, BASE)), // auipc x31,0
         (0, Priv::M, BASE + 4, 0x110f_8513, Did::Wrote(10, PLACE)), // addi x10,x31,0x110
@@ -28,56 +30,63 @@ fn operate(
         (0, Priv::M, BASE + 12, word, did),
     ];
     let data = [(PLACE, pair.0), (BASE + 0x108, pair.1)];
-    let start = with_data(1, &data);
-    let core = run(rt, alloc, start, &rows)?;
-    Ok(number_from(core.ram(), PLACE))
+    let core = run(rt, alloc, with_data(1, &data), &rows)?;
+    holds(rt, core.ram(), PLACE, left);
+    Ok(())
 }
+
+/// The numbers at the place and in x11 for the first and the second value of each operation.
+const FIRST: (u64, u64) = (0x8000_0000_7fff_ffff, 0x7fff_ffff_8000_0000);
+
+const SECOND: (u64, u64) = (0xffff_ffff_ffff_ffff, 1);
 
 #[test]
 fn each_operation_stores_its_value(rt: HostRuntime) -> Result<(), AllocError> {
-    let first = (0x8000_0000_7fff_ffff, 0x7fff_ffff_8000_0000);
-    let second = (0xffff_ffff_ffff_ffff, 1);
-    for (word, one, other) in AMO_WORDS.iter().copied() {
+    for &(word, one, other) in &AMO_WORDS {
         let did = Did::Updated(12, 0x7fff_ffff, PLACE, 4, one);
-        let left = operate(&rt, rt.alloc(), word, first, did)?;
-        assert_eq!(rt; left, 0x8000_0000_0000_0000 | one, "{word}");
+        operate(
+            &rt,
+            rt.alloc(),
+            word,
+            FIRST,
+            did,
+            0x8000_0000_0000_0000 | one,
+        )?;
         let did = Did::Updated(12, 0xffff_ffff_ffff_ffff, PLACE, 4, other);
-        let left = operate(&rt, rt.alloc(), word, second, did)?;
-        assert_eq!(rt; left, 0xffff_ffff_0000_0000 | other, "{word}");
+        operate(
+            &rt,
+            rt.alloc(),
+            word,
+            SECOND,
+            did,
+            0xffff_ffff_0000_0000 | other,
+        )?;
     }
-    for (word, one, other) in AMO_DOUBLES.iter().copied() {
-        let did = Did::Updated(12, first.0, PLACE, 8, one);
-        assert_eq!(rt; operate(&rt, rt.alloc(), word, first, did)?, one, "{word}");
-        let did = Did::Updated(12, second.0, PLACE, 8, other);
-        assert_eq!(rt;
-            operate(&rt, rt.alloc(), word, second, did)?,
-            other,
-            "{word}"
-        );
+    for &(word, one, other) in &AMO_DOUBLES {
+        let did = Did::Updated(12, FIRST.0, PLACE, 8, one);
+        operate(&rt, rt.alloc(), word, FIRST, did, one)?;
+        let did = Did::Updated(12, SECOND.0, PLACE, 8, other);
+        operate(&rt, rt.alloc(), word, SECOND, did, other)?;
     }
-    let start = with_data(1, &[(0x8000_0180, 0x9122_3344_7566_7788)]);
-    let _ = run(&rt, rt.alloc(), start, &ONE_REGISTER)?;
-    Ok(())
+    run_rows(&rt, rt.alloc(), with_data(1, &DOUBLEWORD), &ONE_REGISTER)
 }
 
 #[test]
 fn a_conditional_store_wins_with_its_reservation_alone(rt: HostRuntime) -> Result<(), AllocError> {
-    let _ = run(&rt, rt.alloc(), with_data(1, &RESERVED), &CONDITIONAL)?;
-    let _ = run(&rt, rt.alloc(), with_data(1, &RESERVED), &AFTER_TRAPS)?;
-    let ram = memory_of(rt.alloc(), &[], &LOSES)?;
-    let core = core_of(&rt, rt.alloc(), 1, ram)?;
-    let mut fixed = Fixed::new(0);
-    fixed.wins = false;
-    let _ = replay(&rt, core, &mut fixed, &LOSES);
-    Ok(())
+    run_rows(&rt, rt.alloc(), with_data(1, &RESERVED), &CONDITIONAL)?;
+    run_rows(&rt, rt.alloc(), with_data(1, &RESERVED), &AFTER_TRAPS)?;
+    let start = Start {
+        wins: false,
+        ..PLAIN
+    };
+    run_rows(&rt, rt.alloc(), start, &LOSES)
 }
 
 #[test]
 fn a_store_of_another_hart_takes_a_reservation(rt: HostRuntime) -> Result<(), AllocError> {
-    let _ = run(&rt, rt.alloc(), with_data(2, &[]), &TWO_HARTS)?;
-    let _ = run(&rt, rt.alloc(), with_data(2, &[]), &TAKEN_AWAY)?;
-    let _ = run(&rt, rt.alloc(), with_data(2, &RESERVED), &HARTS_APART)?;
-    Ok(())
+    run_rows(&rt, rt.alloc(), with_data(2, &[]), &TWO_HARTS)?;
+    run_rows(&rt, rt.alloc(), with_data(2, &[]), &TAKEN_AWAY)?;
+    run_rows(&rt, rt.alloc(), with_data(2, &RESERVED), &HARTS_APART)
 }
 
 fn clear(rt: &impl Abort, core: &mut Core, at: u64) {
@@ -85,35 +94,41 @@ fn clear(rt: &impl Abort, core: &mut Core, at: u64) {
     core.host_clear(at);
 }
 
-fn held(rt: &impl Abort, core: &Core) -> Option<u64> {
-    assert!(rt; 0 < core.harts());
-    core.reservation(0)
+#[test]
+fn the_host_takes_the_reservations_that_it_touches(rt: HostRuntime) -> Result<(), AllocError> {
+    let mut core = run(&rt, rt.alloc(), with_data(1, &STORING), &RESERVING)?;
+    clear(&rt, &mut core, 0x8000_0108);
+    reserves(&rt, &core, 0, Some(0x8000_0100), 3);
+    holds(&rt, core.ram(), 0x8000_0108, 0);
+    holds(&rt, core.ram(), 0x8000_0100, 0x1111_1111_2222_2222);
+    clear(&rt, &mut core, 0x8000_0100);
+    reserves(&rt, &core, 0, None, 3);
+    holds(&rt, core.ram(), 0x8000_0100, 0);
+    // sc.w x12,x10,(x10)
+    let row = (0, M, 0x8000_000c, 0x18a5_262f, Wrote(12, 1));
+    compare(&rt, &mut core, &mut Fixed::new(0), row, 3);
+    holds(&rt, core.ram(), 0x8000_0100, 0);
+    Ok(())
 }
 
 #[test]
-fn the_host_takes_the_reservations_that_it_touches(rt: HostRuntime) -> Result<(), AllocError> {
-    let data = [
-        RESERVED[0],
-        RESERVED[1],
-        (0x8000_0008, 0x18a5_262f_1005_262f), // lr.w x12,(x10), and then the store
-    ];
-    let mut core = run(&rt, rt.alloc(), with_data(1, &data), &RESERVING)?;
-    clear(&rt, &mut core, 0x8000_0108);
-    assert_eq!(rt; held(&rt, &core), Some(0x8000_0100));
-    assert_eq!(rt; number_from(core.ram(), 0x8000_0108), 0);
-    assert_eq!(rt; number_from(core.ram(), 0x8000_0100), 0x1111_1111_2222_2222);
-    clear(&rt, &mut core, 0x8000_0100);
-    assert_eq!(rt; held(&rt, &core), None);
-    assert_eq!(rt; number_from(core.ram(), 0x8000_0100), 0);
-    // sc.w x12,x10,(x10)
-    let row = (0, M, 0x8000_000c, 0x18a5_262f, Wrote(12, 1));
-    compare(&rt, &mut core, &mut Fixed::new(0), row, 0);
-    assert_eq!(rt; number_from(core.ram(), 0x8000_0100), 0);
+fn all_reservations_are_dropped(rt: HostRuntime) -> Result<(), AllocError> {
     let mut core = run(&rt, rt.alloc(), with_data(1, &RESERVED), &RESERVING)?;
     core.clear_reservations();
-    assert_eq!(rt; held(&rt, &core), None);
+    reserves(&rt, &core, 0, None, 3);
     Ok(())
 }
+
+/// The number on which the operations of one register work.
+static DOUBLEWORD: [(u64, u64); 1] = [(0x8000_0180, 0x9122_3344_7566_7788)];
+
+/// The bytes that are reserved and those after them, and a program's third and fourth word: lr.w x12,(x10),
+/// and then sc.w x12,x10,(x10).
+static STORING: [(u64, u64); 3] = [
+    (0x8000_0100, 0x1111_1111_2222_2222),
+    (0x8000_0108, 0x3333_3333_4444_4444),
+    (0x8000_0008, 0x18a5_262f_1005_262f),
+];
 
 /// The bytes that are reserved, and those after them.
 static RESERVED: [(u64, u64); 2] = [

@@ -22,7 +22,7 @@ fn answers(at: u64, is_listed: bool, size: u8, answer: u64, value: u64) -> (Did,
 
 /// Tries each size at one register.
 fn try_register(rt: &impl Abort, alloc: Global, at: u64, listed: u8) -> Result<(), AllocError> {
-    for (size, load, store, answer, value) in SIZES.iter().copied() {
+    for &(size, load, store, answer, value) in &SIZES {
         let (loads, stores, next) = answers(at, size == listed, size, answer, value);
         try_row(rt, alloc, (load, at, 0, loads, next))?;
         try_row(rt, alloc, (store, at, 0xf123_4567_89ab_cdef, stores, next))?;
@@ -32,7 +32,7 @@ fn try_register(rt: &impl Abort, alloc: Global, at: u64, listed: u8) -> Result<(
 
 #[test]
 fn each_device_register_answers_its_own_size_alone(rt: HostRuntime) -> Result<(), AllocError> {
-    for (at, listed) in DEVICE_REGISTERS.iter().copied() {
+    for &(at, listed) in &DEVICE_REGISTERS {
         try_register(&rt, rt.alloc(), at, listed)?;
     }
     Ok(())

@@ -2,7 +2,7 @@
 
 use crate::step_tests::Did::{Loaded, Passed, Raised, Stored, Updated, Wrote};
 use crate::step_tests::{
-    Before, Did, PLAIN, Row, Word, counters, run, try_in, try_rows, with_data,
+    Before, Did, PLAIN, Row, Word, reserves, run_counted, run_rows, try_in, try_rows, with_data,
 };
 use hart_step::Priv;
 use hart_step::Priv::{M, S};
@@ -25,7 +25,7 @@ fn under_pages(mode: Priv, status: u64, x10: u64) -> Before {
 }
 
 fn try_each(rt: &impl Abort, alloc: Global, rows: &[Translated]) -> Result<(), AllocError> {
-    for (mode, status, x10, word, did) in rows.iter().copied() {
+    for &(mode, status, x10, word, did) in rows {
         let before = under_pages(mode, status, x10);
         let _ = try_in(rt, alloc, before, word, &PAGES, did)?;
     }
@@ -34,17 +34,14 @@ fn try_each(rt: &impl Abort, alloc: Global, rows: &[Translated]) -> Result<(), A
 
 #[test]
 fn fetches_are_answered_parcel_by_parcel(rt: HostRuntime) -> Result<(), AllocError> {
-    let core = run(&rt, rt.alloc(), PLAIN, &FETCHES)?;
-    assert_eq!(rt; counters(&rt, &core), (11, 9));
-    let _ = run(&rt, rt.alloc(), PLAIN, &LAST_HALFWORD)?;
-    let _ = run(&rt, rt.alloc(), PLAIN, &LAST_WORD)?;
-    let _ = run(&rt, rt.alloc(), PLAIN, &ROM_ADDRESS)?;
-    let half = with_data(1, &[(0x8000_fff8, 0x0013_0000_0000_0000)]);
-    let _ = run(&rt, rt.alloc(), half, &SECOND_PARCEL)?;
+    run_counted(&rt, rt.alloc(), PLAIN, &FETCHES, (11, 9))?;
+    run_rows(&rt, rt.alloc(), PLAIN, &LAST_HALFWORD)?;
+    run_rows(&rt, rt.alloc(), PLAIN, &LAST_WORD)?;
+    run_rows(&rt, rt.alloc(), PLAIN, &ROM_ADDRESS)?;
+    let half = with_data(1, &HALF_A_WORD);
+    run_rows(&rt, rt.alloc(), half, &SECOND_PARCEL)?;
     let paged = with_data(1, &FETCH_PAGES);
-    let core = run(&rt, rt.alloc(), paged, &VIRTUAL_FETCHES)?;
-    assert_eq!(rt; counters(&rt, &core), (46, 41));
-    Ok(())
+    run_counted(&rt, rt.alloc(), paged, &VIRTUAL_FETCHES, (46, 41))
 }
 
 #[test]
@@ -59,13 +56,16 @@ fn data_are_aligned_and_answered_by_memory_or_a_device(rt: HostRuntime) -> Resul
 fn data_are_translated_by_the_tables(rt: HostRuntime) -> Result<(), AllocError> {
     try_each(&rt, rt.alloc(), &TRANSLATED)?;
     let changed = with_data(1, &REMAPPED_PAGES);
-    let _ = run(&rt, rt.alloc(), changed, &REMAPPED)?;
-    // lr.w x12,(x10): a reservation is of physical bytes
+    run_rows(&rt, rt.alloc(), changed, &REMAPPED)
+}
+
+#[test]
+fn a_reservation_is_of_physical_bytes(rt: HostRuntime) -> Result<(), AllocError> {
+    // lr.w x12,(x10)
     let before = under_pages(Priv::S, 0x800, 0x4000_000c);
     let did = Did::Wrote(12, 0xffff_ffff_9122_3344);
     let core = try_in(&rt, rt.alloc(), before, 0x1005_262f, &PAGES, did)?;
-    assert!(rt; 0 < core.harts());
-    assert_eq!(rt; core.reservation(0), Some(0x8000_3008));
+    reserves(&rt, &core, 0, Some(0x8000_3008), 13);
     Ok(())
 }
 
@@ -183,6 +183,8 @@ static LAST_WORD: [Row; 6] = [
 ];
 
 /// The low half of a word in the last two bytes.
+static HALF_A_WORD: [(u64, u64); 1] = [(0x8000_fff8, 0x0013_0000_0000_0000)];
+
 static SECOND_PARCEL: [Row; 5] = [
     (0, M, 0x8000_0000, 0x0001_02b7, Wrote(5, 0x1_0000)), // lui x5,16
     (0, M, 0x8000_0004, 0x0000_0317, Wrote(6, 0x8000_0004)), // auipc x6,0

@@ -1,7 +1,7 @@
 //! Accesses to control and status registers, and what each mode may do.
 
 use crate::step_tests::Did::{Passed, Raised, Saw, Wrote};
-use crate::step_tests::{Before, Did, PLAIN, Row, counters, run, try_in};
+use crate::step_tests::{Before, Did, PLAIN, Row, run_counted, run_rows, try_in};
 use hart_step::Priv;
 use hart_step::Priv::{M, S, U};
 use std::alloc::{AllocError, Global};
@@ -11,7 +11,7 @@ use std::process::Abort;
 type Legality = (Priv, u64, u64, u32, Did);
 
 fn try_each(rt: &impl Abort, alloc: Global, rows: &[Legality]) -> Result<(), AllocError> {
-    for (mode, status, counters, word, did) in rows.iter().copied() {
+    for &(mode, status, counters, word, did) in rows {
         let before = Before {
             mode,
             status,
@@ -34,10 +34,8 @@ fn each_mode_may_do_what_the_manual_says(rt: HostRuntime) -> Result<(), AllocErr
 
 #[test]
 fn registers_are_read_and_written_by_each_form(rt: HostRuntime) -> Result<(), AllocError> {
-    let _ = run(&rt, rt.alloc(), PLAIN, &REGISTERS)?;
-    let core = run(&rt, rt.alloc(), PLAIN, &VOLATILES)?;
-    assert_eq!(rt; counters(&rt, &core), (9, 3));
-    Ok(())
+    run_rows(&rt, rt.alloc(), PLAIN, &REGISTERS)?;
+    run_counted(&rt, rt.alloc(), PLAIN, &VOLATILES, (9, 3))
 }
 
 /// Calls, breakpoints and words without a row.

@@ -1,31 +1,24 @@
 //! Exceptions and interrupts, the handlers that they enter, and the returns.
 
 use crate::step_tests::Did::{Interrupted, Passed, Raised, Wrote};
-use crate::step_tests::{PLAIN, Row, Start, counters, run};
+use crate::step_tests::{PLAIN, Row, Start, run_counted};
 use hart_step::Priv::{M, S, U};
 use std::alloc::AllocError;
 
 #[test]
 fn exceptions_go_where_they_are_delegated(rt: HostRuntime) -> Result<(), AllocError> {
-    let core = run(&rt, rt.alloc(), PLAIN, &DELEGATION)?;
-    assert_eq!(rt; counters(&rt, &core), (59, 54));
-    let core = run(&rt, rt.alloc(), PLAIN, &MACHINE_CAUSES)?;
-    assert_eq!(rt; counters(&rt, &core), (15, 12));
-    Ok(())
+    run_counted(&rt, rt.alloc(), PLAIN, &DELEGATION, (59, 54))?;
+    run_counted(&rt, rt.alloc(), PLAIN, &MACHINE_CAUSES, (15, 12))
 }
 
 #[test]
 fn interrupts_are_whole_steps(rt: HostRuntime) -> Result<(), AllocError> {
-    let core = run(&rt, rt.alloc(), PLAIN, &SOFTWARE_INTERRUPTS)?;
-    assert_eq!(rt; counters(&rt, &core), (31, 28));
+    run_counted(&rt, rt.alloc(), PLAIN, &SOFTWARE_INTERRUPTS, (31, 28))?;
     let start = Start {
-        harts: 1,
         live: 0x880,
-        data: &[],
+        ..PLAIN
     };
-    let core = run(&rt, rt.alloc(), start, &LIVE_INTERRUPTS)?;
-    assert_eq!(rt; counters(&rt, &core), (4, 3));
-    Ok(())
+    run_counted(&rt, rt.alloc(), start, &LIVE_INTERRUPTS, (4, 3))
 }
 
 /// User mode's calls and breakpoints are delegated: medeleg is 0x108. The rest goes to machine mode.

@@ -2,85 +2,114 @@
 
 use crate::step_tests::Did::{Passed, Stored, Wrote};
 use crate::step_tests::{
-    DATA, Did, Fixed, PLAIN, Row, Tried, WORD_AT, Word, counters, event_of, number_from, run,
+    DATA, Did, Fixed, PLAIN, Row, Tried, WORD_AT, Word, event_of, holds, run, run_counted, same,
     try_row, try_rows, try_word,
 };
 use guest_ram::BASE;
-use hart_step::Priv;
 use hart_step::Priv::M;
+use hart_step::{Hart, Priv};
 use rv_alu::Mode;
-use std::alloc::AllocError;
+use std::alloc::{AllocError, Global};
+use std::process::Abort;
+
+/// x10 and x11 before the words of the tables, and others for the second value of each register form.
+const OPERANDS: (u64, u64) = (0xf123_4567_89ab_cdef, 0x123_4567_89ab_c925);
+
+const OTHERS: (u64, u64) = (0x7123_4567_09ab_cdef, 0xffff_ff11_99ab_cd2b);
+
+/// Tries a word of four bytes that writes x12 and goes on.
+fn computes(
+    rt: &impl Abort,
+    alloc: Global,
+    word: u32,
+    operands: (u64, u64),
+    value: u64,
+) -> Result<(), AllocError> {
+    let row = (
+        word,
+        operands.0,
+        operands.1,
+        Did::Wrote(12, value),
+        WORD_AT + 4,
+    );
+    try_row(rt, alloc, row)
+}
 
 #[test]
 fn computations_and_loads_write_their_value(rt: HostRuntime) -> Result<(), AllocError> {
-    let next = WORD_AT + 4;
-    let (a, b) = (0xf123_4567_89ab_cdef, 0x123_4567_89ab_c925);
-    for (word, first, second) in REGISTER_FORMS.iter().copied() {
-        try_row(&rt, rt.alloc(), (word, a, b, Did::Wrote(12, first), next))?;
-        let other = (0x7123_4567_09ab_cdef, 0xffff_ff11_99ab_cd2b);
-        try_row(
-            &rt,
-            rt.alloc(),
-            (word, other.0, other.1, Did::Wrote(12, second), next),
-        )?;
+    for &(word, first, second) in &REGISTER_FORMS {
+        computes(&rt, rt.alloc(), word, OPERANDS, first)?;
+        computes(&rt, rt.alloc(), word, OTHERS, second)?;
     }
-    for (word, value) in IMMEDIATE_FORMS.iter().copied() {
-        try_row(&rt, rt.alloc(), (word, a, b, Did::Wrote(12, value), next))?;
+    for &(word, value) in &IMMEDIATE_FORMS {
+        computes(&rt, rt.alloc(), word, OPERANDS, value)?;
     }
-    for (word, value) in LOADS.iter().copied() {
-        try_row(
-            &rt,
-            rt.alloc(),
-            (word, DATA, 0, Did::Wrote(12, value), next),
-        )?;
+    for &(word, value) in &LOADS {
+        computes(&rt, rt.alloc(), word, (DATA, 0), value)?;
     }
+    Ok(())
+}
+
+/// Tries a store to DATA and on: what it shows, and the data after it.
+fn stores(
+    rt: &impl Abort,
+    alloc: Global,
+    word: u32,
+    did: Did,
+    data: (u64, u64),
+) -> Result<(), AllocError> {
+    let mut fixed = Fixed::new(0);
+    let shown = try_word(rt, alloc, &mut fixed, word, DATA + 8, OPERANDS.1)?;
+    let want = Tried {
+        event: event_of((0, Priv::M, WORD_AT, word, did)),
+        next: WORD_AT + 4,
+        low: data.0,
+        high: data.1,
+    };
+    same(rt, &shown, &want, "what is left by", u64::from(word));
     Ok(())
 }
 
 #[test]
 fn stores_show_and_write_their_bytes_alone(rt: HostRuntime) -> Result<(), AllocError> {
-    for (word, (at, size, value), low, high) in STORES.iter().copied() {
-        let mut fixed = Fixed::new(0);
-        let shown = try_word(
+    for &(word, (at, size, value), low, high) in &STORES {
+        stores(
             &rt,
             rt.alloc(),
-            &mut fixed,
             word,
-            DATA + 8,
-            0x123_4567_89ab_c925,
+            Did::Stored(at, size, value),
+            (low, high),
         )?;
-        let want = Tried {
-            event: event_of((0, Priv::M, WORD_AT, word, Did::Stored(at, size, value))),
-            next: WORD_AT + 4,
-            low,
-            high,
-        };
-        assert_eq!(rt; shown, want, "{word}");
     }
     Ok(())
 }
 
 #[test]
 fn branches_jumps_and_compressed_forms(rt: HostRuntime) -> Result<(), AllocError> {
-    for (word, a, b, next) in BRANCHES.iter().copied() {
+    for &(word, a, b, next) in &BRANCHES {
         try_row(&rt, rt.alloc(), (word, a, b, Did::Passed, next))?;
     }
     try_rows(&rt, rt.alloc(), &JUMPS)?;
-    try_rows(&rt, rt.alloc(), &COMPRESSED_FORMS)?;
-    Ok(())
+    try_rows(&rt, rt.alloc(), &COMPRESSED_FORMS)
+}
+
+/// Compares a register of a hart.
+fn register(rt: &impl Abort, hart: &Hart, number: u8, want: u64) {
+    assert!(rt; number < 32);
+    same(rt, &hart.x(number), &want, "register", u64::from(number));
 }
 
 #[test]
 fn steps_follow_each_other_and_reach_the_console(rt: HostRuntime) -> Result<(), AllocError> {
+    run_counted(&rt, rt.alloc(), PLAIN, &CONSOLE, (7, 7))?;
     let core = run(&rt, rt.alloc(), PLAIN, &CONSOLE)?;
-    assert_eq!(rt; counters(&rt, &core), (7, 7));
     assert!(rt; 0 < core.harts());
-    assert_eq!(rt;
-        (core.hart(0).pc(), core.hart(0).x(0), core.hart(0).x(6)),
-        (0x8000_0008, 0, 0x1000_0000)
-    );
-    assert_eq!(rt; core.hart(0).mode(), Mode::M);
-    assert_eq!(rt; number_from(core.ram(), BASE), 0x1000_0337_0040_00ff);
+    let hart = core.hart(0);
+    same(&rt, &hart.pc(), &0x8000_0008, "pc after", 7);
+    register(&rt, hart, 0, 0);
+    register(&rt, hart, 6, 0x1000_0000);
+    same(&rt, &hart.mode(), &Mode::M, "mode after", 7);
+    holds(&rt, core.ram(), BASE, 0x1000_0337_0040_00ff);
     Ok(())
 }
 
