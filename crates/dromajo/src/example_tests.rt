@@ -3,6 +3,7 @@
 
 use crate::example_images::{HELLO, PAGES, TIMER, TRAPS};
 use crate::status::Status;
+use crate::test_support::same;
 use crate::top::dromajo;
 use outside_io::{MemFiles, MemSink, MemSource};
 use std::alloc::{AllocError, Global};
@@ -41,9 +42,21 @@ fn expect_run(
         &mut out,
         &mut report,
     );
-    assert_eq!(rt; status, Status::Done);
-    assert_eq!(rt; out.bytes(), console.as_bytes());
-    assert_eq!(rt; report.bytes(), line.as_bytes());
+    same(rt, &status, &Status::Done, "the status of", console);
+    same(
+        rt,
+        &out.bytes(),
+        &console.as_bytes(),
+        "the console of",
+        console,
+    );
+    same(
+        rt,
+        &report.bytes(),
+        &line.as_bytes(),
+        "the report of",
+        console,
+    );
     Ok(())
 }
 

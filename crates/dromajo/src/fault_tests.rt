@@ -2,14 +2,17 @@
 // the trace and the input hold then. The words of the programs are an assembler's (llvm-mc), and what comes
 // of them is reckoned by hand.
 
-use crate::test_support::{Outside, Row, expect_file, expect_left, expect_row, expect_written};
+use crate::test_support::{
+    Before, Outside, Row, expect_call, expect_code, expect_file, expect_left, expect_written,
+};
 use std::alloc::{AllocError, Global};
+use std::process::Abort;
 use std::test::Fail;
 
 const THREE_STEPS: &str = "{\"harts\":1,\"ram\":65536,\"slice\":3,\"program\":\"p.elf\"}";
 
 // Three steps a turn: a letter in each, and each turn takes a byte of the input.
-const ALPHABET: [u32; 5] = [
+static ALPHABET: [u32; 5] = [
     0x0410_0293, // addi x5,x0,0x41
     0x1000_0337, // lui x6,0x10000
     0x0053_0023, // sb x5,0(x6)
@@ -266,41 +269,63 @@ fn lines_of(alloc: Global, turns: usize) -> Result<String, AllocError> {
     Ok(lines)
 }
 
+// The trace after a fault: the lines of so many turns, or what stood there before.
+fn expect_trace(
+    rt: &impl Abort,
+    alloc: Global,
+    outside: &Outside,
+    turns: Option<usize>,
+    note: &str,
+) -> Result<(), AllocError> {
+    match turns {
+        None => expect_file(rt, outside, "t", Some(OLD), note),
+        Some(turns) => {
+            let lines = lines_of(alloc, turns)?;
+            expect_file(rt, outside, "t", Some(lines.as_str()), note);
+        }
+    }
+    Ok(())
+}
+
+// What a fault leaves after the call.
+fn expect_fault(rt: &impl Abort, alloc: Global, fault: &Fault) -> Result<(), Fail> {
+    let mut outside = Outside::new(alloc, THREE_STEPS, &ALPHABET, b"ab")?;
+    outside.files.put("t", OLD.as_bytes())?;
+    outside.fail_at(fault.calls)?;
+    let note = format!(in alloc; "{:?}", fault.calls)?;
+    let line = "run --config c --turns 3 --trace t";
+    expect_code(rt, alloc, &mut outside, line, fault.code)?;
+    expect_written(rt, &outside, fault.report, fault.console, &note);
+    expect_trace(rt, alloc, &outside, fault.turns, &note)?;
+    expect_file(rt, &outside, "c", Some(THREE_STEPS), &note);
+    expect_left(rt, &mut outside, fault.left, &note);
+    Ok(())
+}
+
 #[test]
 fn a_failing_call_leaves_the_console_and_the_lines_of_whole_turns(
     rt: HostRuntime,
 ) -> Result<(), Fail> {
-    for fault in FAULTS {
-        let mut outside = Outside::new(rt.alloc(), THREE_STEPS, &ALPHABET, b"ab")?;
-        outside.files.put("t", OLD.as_bytes())?;
-        outside.fail_at(fault.calls)?;
-        let note = format!(in rt.alloc(); "{:?}", fault.calls)?;
-        let code = outside.call(rt.alloc(), "run --config c --turns 3 --trace t")?;
-        assert_eq!(rt; code, fault.code, "{note}");
-        expect_written(&rt, &outside, fault.report, fault.console, &note);
-        match fault.turns {
-            None => expect_file(&rt, &outside, "t", Some(OLD), &note),
-            Some(turns) => {
-                let lines = lines_of(rt.alloc(), turns)?;
-                expect_file(&rt, &outside, "t", Some(lines.as_str()), &note);
-            }
-        }
-        expect_file(&rt, &outside, "c", Some(THREE_STEPS), &note);
-        expect_left(&rt, &mut outside, fault.left, &note);
+    for fault in &FAULTS {
+        expect_fault(&rt, rt.alloc(), fault)?;
     }
     Ok(())
 }
 
 // A letter to the console, and a jump to itself.
-const LETTER: [u32; 4] = [
+static LETTER: [u32; 4] = [
     0x0410_0293, // addi x5,x0,0x41
     0x1000_0337, // lui x6,0x10000
     0x0053_0023, // sb x5,0(x6)
     0x0000_006f, // jal x0,0
 ];
 
+// The calls that fail, the status's number, the report, the console's bytes or the lines, and what the input
+// has left.
+type FaultRow = ([u64; 4], u8, &'static str, &'static str, &'static str);
+
 // Failing calls in the one turn of a flat image, without a trace.
-static IMAGE_FAULTS: [([u64; 4], u8, &str, &str, &str); 8] = [
+static IMAGE_FAULTS: [FaultRow; 8] = [
     ([1, 0, 0, 0], 7, FILES_UNREAD, "", "ab"),
     ([2, 0, 0, 0], 7, FILES_UNREAD, "", "ab"),
     ([3, 0, 0, 0], 0, "done turns=1 taken=1\n", "A", "b"),
@@ -311,26 +336,35 @@ static IMAGE_FAULTS: [([u64; 4], u8, &str, &str, &str); 8] = [
     ([0, 0, 1, 1], 8, "", "", "b"),
 ];
 
+fn expect_image_fault(rt: &impl Abort, alloc: Global, fault: FaultRow) -> Result<(), Fail> {
+    let (calls, code, report, console, left) = fault;
+    let before = Before {
+        config: "",
+        words: &LETTER,
+        input: "ab",
+        calls,
+    };
+    let row = Row {
+        line: "run --image a.bin --turns 1",
+        code,
+        report,
+        console,
+        trace: None,
+        left,
+    };
+    expect_call(rt, alloc, before, &row)
+}
+
 #[test]
 fn a_failing_call_of_an_image_is_reported(rt: HostRuntime) -> Result<(), Fail> {
-    for (calls, code, report, console, left) in IMAGE_FAULTS {
-        let mut outside = Outside::new(rt.alloc(), "", &LETTER, b"ab")?;
-        outside.fail_at(calls)?;
-        let row = Row {
-            line: "run --image a.bin --turns 1",
-            code,
-            report,
-            console,
-            trace: None,
-            left,
-        };
-        expect_row(&rt, rt.alloc(), &mut outside, &row)?;
+    for &fault in &IMAGE_FAULTS {
+        expect_image_fault(&rt, rt.alloc(), fault)?;
     }
     Ok(())
 }
 
 // The first turn's three steps store the number 3 in the host window.
-const ENDS: [u32; 3] = [
+static ENDS: [u32; 3] = [
     0x0030_0293, // addi x5,x0,3
     0x0000_1317, // auipc x6,1
     0xfe53_3e23, // sd x5,-4(x6)
@@ -342,7 +376,7 @@ const ENDS_LINES: &str = "C 0 M 0000000080000000 00300293 x5 0000000000000003\n\
 
 // Failing calls in the turn that ends the run: the fault is answered, and not the end. A failing report
 // leaves the end's status.
-static END_FAULTS: [([u64; 4], u8, &str, &str, &str); 5] = [
+static END_FAULTS: [FaultRow; 5] = [
     (
         [0, 0, 0, 0],
         10,
@@ -362,22 +396,29 @@ static END_FAULTS: [([u64; 4], u8, &str, &str, &str); 5] = [
     ([0, 0, 0, 1], 10, "", ENDS_LINES, "b"),
 ];
 
+fn expect_end_fault(rt: &impl Abort, alloc: Global, fault: FaultRow) -> Result<(), Fail> {
+    let (calls, code, report, lines, left) = fault;
+    let before = Before {
+        config: "{\"harts\":1,\"ram\":65536,\"slice\":3,\"program\":\"p.elf\",\"tohost\":2147487744}",
+        words: &ENDS,
+        input: "ab",
+        calls,
+    };
+    let row = Row {
+        line: "run --config c --turns 9 --trace t",
+        code,
+        report,
+        console: "",
+        trace: Some(lines),
+        left,
+    };
+    expect_call(rt, alloc, before, &row)
+}
+
 #[test]
 fn a_fault_in_the_last_turn_goes_before_its_end(rt: HostRuntime) -> Result<(), Fail> {
-    let config =
-        "{\"harts\":1,\"ram\":65536,\"slice\":3,\"program\":\"p.elf\",\"tohost\":2147487744}";
-    for (calls, code, report, lines, left) in END_FAULTS {
-        let mut outside = Outside::new(rt.alloc(), config, &ENDS, b"ab")?;
-        outside.fail_at(calls)?;
-        let row = Row {
-            line: "run --config c --turns 9 --trace t",
-            code,
-            report,
-            console: "",
-            trace: Some(lines),
-            left,
-        };
-        expect_row(&rt, rt.alloc(), &mut outside, &row)?;
+    for &fault in &END_FAULTS {
+        expect_end_fault(&rt, rt.alloc(), fault)?;
     }
     Ok(())
 }

@@ -4,7 +4,7 @@
 use crate::program::{Start, load_start};
 use crate::report::report_line;
 use crate::status::Status;
-use crate::test_support::{NONE, Put, elf};
+use crate::test_support::{NONE, Put, elf, same};
 use crate::words::Source;
 use guest_ram::BASE;
 use outside_io::{Files, MemFiles, OutFault};
@@ -105,29 +105,75 @@ static STARTS: [(&str, Put, Shape); 6] = [
 
 // The memory of a start has these bytes at its front, and its length.
 fn expect_front(rt: &impl Abort, start: &Start, front: &[u8], len: u64) {
-    assert_eq!(rt; start.ram.len(), len);
+    same(rt, &start.ram.len(), &len, "bytes of", "the memory");
     assert!(rt; start.ram.has(BASE, 24));
-    assert_eq!(rt; start.ram.part(BASE, 24), front);
+    same(
+        rt,
+        &start.ram.part(BASE, 24),
+        &front,
+        "front of",
+        "the memory",
+    );
+}
+
+// The files give this start.
+fn expect_start(
+    rt: &impl Abort,
+    alloc: Global,
+    files: &mut MemFiles,
+    source: Source<'_>,
+    shape: Shape,
+    front: &[u8],
+) {
+    match load_start(alloc, files, source) {
+        Ok(start) => {
+            same(rt, &start.shape, &shape, "shape of", "the start");
+            same(rt, &start.entry, &0x8000_0000, "entry of", "the start");
+            expect_front(rt, &start, front, shape.ram);
+        }
+        Err(status) => same(rt, &status, &Status::Done, "status of", "a start"),
+    }
+}
+
+// The first bytes of memory after the program was laid there.
+static FRONT: [u8; 24] = [
+    0x93, 0x02, 0x10, 0x00, 0x17, 0x13, 0x00, 0x00, 0x23, 0x3e, 0x53, 0xfe, 0x6f, 0, 0, 0, 0, 0, 0,
+    0, 0, 0, 0, 0,
+];
+
+// The start of a configuration and the changed ELF file.
+fn expect_shape(
+    rt: &impl Abort,
+    alloc: Global,
+    config: &str,
+    change: Put,
+    shape: Shape,
+) -> Result<(), OutFault> {
+    let program = elf(rt, change);
+    let mut files = files_of(alloc, config.as_bytes(), &program)?;
+    expect_start(rt, alloc, &mut files, Source::Config("c"), shape, &FRONT);
+    Ok(())
 }
 
 #[test]
 fn a_configuration_and_its_program_give_the_start(rt: HostRuntime) -> Result<(), OutFault> {
-    let front = [
-        0x93u8, 0x02, 0x10, 0x00, 0x17, 0x13, 0x00, 0x00, 0x23, 0x3e, 0x53, 0xfe, 0x6f, 0, 0, 0, 0,
-        0, 0, 0, 0, 0, 0, 0,
-    ];
-    for (config, change, shape) in STARTS {
-        let program = elf(&rt, change);
-        let mut files = files_of(rt.alloc(), config.as_bytes(), &program)?;
-        match load_start(rt.alloc(), &mut files, Source::Config("c")) {
-            Ok(start) => {
-                assert_eq!(rt; start.shape, shape);
-                assert_eq!(rt; start.entry, 0x8000_0000);
-                expect_front(&rt, &start, &front, shape.ram);
-            }
-            Err(status) => assert_eq!(rt; status, Status::Done, "{config}"),
-        }
+    for &(config, change, shape) in &STARTS {
+        expect_shape(&rt, rt.alloc(), config, change, shape)?;
     }
+    Ok(())
+}
+
+// The files are refused with this line.
+fn expect_refusal(
+    rt: &impl Abort,
+    alloc: Global,
+    files: &mut MemFiles,
+    source: Source<'_>,
+    want: &str,
+) -> Result<(), OutFault> {
+    let start = load_start(alloc, files, source);
+    let line = refusal(alloc, start)?;
+    same(rt, &line.as_str(), &want, "refusal for", want);
     Ok(())
 }
 
@@ -178,14 +224,16 @@ static CONFIGS: [(&str, &str); 12] = [
     ),
 ];
 
+fn expect_config(rt: &impl Abort, alloc: Global, config: &str, want: &str) -> Result<(), OutFault> {
+    let mut files = MemFiles::new(alloc);
+    files.put("c", config.as_bytes())?;
+    expect_refusal(rt, alloc, &mut files, Source::Config("c"), want)
+}
+
 #[test]
 fn a_configuration_is_refused_before_its_program_is_read(rt: HostRuntime) -> Result<(), OutFault> {
-    for (config, want) in CONFIGS {
-        let mut files = MemFiles::new(rt.alloc());
-        files.put("c", config.as_bytes())?;
-        let start = load_start(rt.alloc(), &mut files, Source::Config("c"));
-        let line = refusal(rt.alloc(), start)?;
-        assert_eq!(rt; line.as_str(), want, "{config}");
+    for &(config, want) in &CONFIGS {
+        expect_config(&rt, rt.alloc(), config, want)?;
     }
     Ok(())
 }
@@ -215,14 +263,16 @@ static PROGRAMS: [(Put, &str); 21] = [
     ((176, 8, 0x8001_0000), "elf wrong-kind tohost\n"),
 ];
 
+fn expect_program(rt: &impl Abort, alloc: Global, change: Put, want: &str) -> Result<(), OutFault> {
+    let program = elf(rt, change);
+    let mut files = files_of(alloc, SMALL.as_bytes(), &program)?;
+    expect_refusal(rt, alloc, &mut files, Source::Config("c"), want)
+}
+
 #[test]
 fn a_program_is_refused_by_its_first_fault(rt: HostRuntime) -> Result<(), OutFault> {
-    for (change, want) in PROGRAMS {
-        let program = elf(&rt, change);
-        let mut files = files_of(rt.alloc(), SMALL.as_bytes(), &program)?;
-        let start = load_start(rt.alloc(), &mut files, Source::Config("c"));
-        let line = refusal(rt.alloc(), start)?;
-        assert_eq!(rt; line.as_str(), want);
+    for &(change, want) in &PROGRAMS {
+        expect_program(&rt, rt.alloc(), change, want)?;
     }
     Ok(())
 }
@@ -235,6 +285,11 @@ fn zeros(alloc: Global, len: usize) -> Result<Vec<u8>, OutFault> {
     }
 }
 
+// The first bytes of memory after the flat image was laid there.
+static IMAGE_FRONT: [u8; 24] = [
+    0x6f, 0, 0, 0, 0, 0, 0, 0, 0, 0, 0, 0, 0, 0, 0, 0, 0, 0, 0, 0, 0, 0, 0, 0,
+];
+
 #[test]
 fn a_flat_image_stands_at_the_front_of_memory(rt: HostRuntime) -> Result<(), OutFault> {
     let mut files = MemFiles::new(rt.alloc());
@@ -242,28 +297,22 @@ fn a_flat_image_stands_at_the_front_of_memory(rt: HostRuntime) -> Result<(), Out
     assert!(rt; image.len() == 65_536);
     image[0] = 0x6f;
     files.put("a.bin", &image)?;
-    match load_start(rt.alloc(), &mut files, Source::Image("a.bin")) {
-        Ok(start) => {
-            let shape = Shape {
-                harts: 1,
-                ram: 65_536,
-                slice: 16,
-                tohost: 0,
-            };
-            assert_eq!(rt; start.shape, shape);
-            assert_eq!(rt; start.entry, 0x8000_0000);
-            let front = [
-                0x6fu8, 0, 0, 0, 0, 0, 0, 0, 0, 0, 0, 0, 0, 0, 0, 0, 0, 0, 0, 0, 0, 0, 0, 0,
-            ];
-            expect_front(&rt, &start, &front, 65_536);
-        }
-        Err(status) => assert_eq!(rt; status, Status::Done),
-    }
+    let shape = Shape {
+        harts: 1,
+        ram: 65_536,
+        slice: 16,
+        tohost: 0,
+    };
+    let source = Source::Image("a.bin");
+    expect_start(&rt, rt.alloc(), &mut files, source, shape, &IMAGE_FRONT);
     Ok(())
 }
 
+// The source, the name and length of a file of zeros, the call that fails, and the report.
+type TooLong = (Source<'static>, &'static str, usize, u64, &'static str);
+
 // The name and length of a file of zeros, and the refusal although its reading would fail.
-static TOO_LONG: [(Source<'static>, &str, usize, u64, &str); 3] = [
+static TOO_LONG: [TooLong; 3] = [
     (Source::Image("a"), "a", 65_537, 2, "elf outside-ram 0\n"),
     (
         Source::Config("c"),
@@ -281,17 +330,20 @@ static TOO_LONG: [(Source<'static>, &str, usize, u64, &str); 3] = [
     ),
 ];
 
+fn expect_too_long(rt: &impl Abort, alloc: Global, row: TooLong) -> Result<(), OutFault> {
+    let (source, name, len, call, want) = row;
+    let mut files = MemFiles::new(alloc);
+    files.put("d", SMALL.as_bytes())?;
+    let bytes = zeros(alloc, len)?;
+    files.put(name, &bytes)?;
+    files.fail_at(call)?;
+    expect_refusal(rt, alloc, &mut files, source, want)
+}
+
 #[test]
 fn nothing_is_read_of_a_file_that_is_too_long(rt: HostRuntime) -> Result<(), OutFault> {
-    for (source, name, len, call, want) in TOO_LONG {
-        let mut files = MemFiles::new(rt.alloc());
-        files.put("d", SMALL.as_bytes())?;
-        let bytes = zeros(rt.alloc(), len)?;
-        files.put(name, &bytes)?;
-        files.fail_at(call)?;
-        let start = load_start(rt.alloc(), &mut files, source);
-        let line = refusal(rt.alloc(), start)?;
-        assert_eq!(rt; line.as_str(), want);
+    for &row in &TOO_LONG {
+        expect_too_long(&rt, rt.alloc(), row)?;
     }
     Ok(())
 }
@@ -313,16 +365,24 @@ static FAILURES: [(Source<'static>, u64, &str); 12] = [
     (Source::Config("none"), 9, "read fault files\n"),
 ];
 
+fn expect_failure(
+    rt: &impl Abort,
+    alloc: Global,
+    source: Source<'_>,
+    call: u64,
+    want: &str,
+) -> Result<(), OutFault> {
+    let program = elf(rt, NONE);
+    let mut files = files_of(alloc, SMALL.as_bytes(), &program)?;
+    files.put("empty", &[])?;
+    files.fail_at(call)?;
+    expect_refusal(rt, alloc, &mut files, source, want)
+}
+
 #[test]
 fn a_failed_read_is_answered(rt: HostRuntime) -> Result<(), OutFault> {
-    for (source, call, want) in FAILURES {
-        let program = elf(&rt, NONE);
-        let mut files = files_of(rt.alloc(), SMALL.as_bytes(), &program)?;
-        files.put("empty", &[])?;
-        files.fail_at(call)?;
-        let start = load_start(rt.alloc(), &mut files, source);
-        let line = refusal(rt.alloc(), start)?;
-        assert_eq!(rt; line.as_str(), want, "{call}");
+    for &(source, call, want) in &FAILURES {
+        expect_failure(&rt, rt.alloc(), source, call, want)?;
     }
     Ok(())
 }
@@ -366,6 +426,12 @@ fn a_file_that_ends_early_counts_as_what_was_read(rt: HostRuntime) -> Result<(),
     let mut files = Ending;
     let start = load_start(rt.alloc(), &mut files, Source::Config("c"));
     let line = refusal(rt.alloc(), start)?;
-    assert_eq!(rt; line.as_str(), "config wrong-kind top\n");
+    same(
+        &rt,
+        &line.as_str(),
+        &"config wrong-kind top\n",
+        "refusal of",
+        "what was read",
+    );
     Ok(())
 }

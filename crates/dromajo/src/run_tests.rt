@@ -1,7 +1,9 @@
 // Runs of the whole program without a trace. The words of the programs are an assembler's (llvm-mc), each
 // with its assembly beside it, and what comes of them is reckoned by hand.
 
-use crate::test_support::{Outside, Row, elf, expect_row, expect_written, image_of};
+use crate::test_support::{
+    Before, Outside, Row, elf, expect_call, expect_code, expect_row, expect_written, image_of, same,
+};
 use outside_io::Source;
 use std::alloc::Global;
 use std::process::Abort;
@@ -67,13 +69,19 @@ static LETTERS: [Row; 6] = [
     },
 ];
 
+// Makes a call of an image, which stays as it was.
+fn expect_letter(rt: &impl Abort, alloc: Global, row: &Row) -> Result<(), Fail> {
+    let mut outside = Outside::new(alloc, "", &LETTER, b"")?;
+    expect_row(rt, alloc, &mut outside, row)?;
+    let image = image_of(alloc, &LETTER)?;
+    assert!(rt; outside.files.bytes("a.bin") == Some(image.as_slice()));
+    Ok(())
+}
+
 #[test]
 fn an_image_sends_a_letter_in_the_first_turn(rt: HostRuntime) -> Result<(), Fail> {
-    for row in LETTERS {
-        let mut outside = Outside::new(rt.alloc(), "", &LETTER, b"")?;
-        expect_row(&rt, rt.alloc(), &mut outside, &row)?;
-        let image = image_of(rt.alloc(), &LETTER)?;
-        assert!(rt; outside.files.bytes("a.bin") == Some(image.as_slice()));
+    for row in &LETTERS {
+        expect_letter(&rt, rt.alloc(), row)?;
     }
     Ok(())
 }
@@ -94,21 +102,30 @@ static NO_JOBS: [&str; 12] = [
     "--help",
 ];
 
+// The first call of each object would fail.
+const LETTER_FAILS: Before = Before {
+    config: "",
+    words: &LETTER,
+    input: "in",
+    calls: [1, 0, 1, 0],
+};
+
+// The row of words that name no job.
+fn no_job(line: &'static str) -> Row {
+    Row {
+        line,
+        code: 2,
+        report: "usage: dromajo command --name value\n",
+        console: "",
+        trace: None,
+        left: "in",
+    }
+}
+
 #[test]
 fn words_that_name_no_job_touch_nothing(rt: HostRuntime) -> Result<(), Fail> {
-    for line in NO_JOBS {
-        let mut outside = Outside::new(rt.alloc(), "", &LETTER, b"in")?;
-        // the first call of each would fail
-        outside.fail_at([1, 0, 1, 0])?;
-        let row = Row {
-            line,
-            code: 2,
-            report: "usage: dromajo command --name value\n",
-            console: "",
-            trace: None,
-            left: "in",
-        };
-        expect_row(&rt, rt.alloc(), &mut outside, &row)?;
+    for &line in &NO_JOBS {
+        expect_call(&rt, rt.alloc(), LETTER_FAILS, &no_job(line))?;
     }
     Ok(())
 }
@@ -128,44 +145,64 @@ static INPUTS: [(&str, &str, u64); 4] = [
     ("abcdefghijklmnopq", "done turns=20 taken=16\n", 17),
 ];
 
+// Makes twenty turns, where the call of the input after so many fails, and answers what is outside.
+fn twenty_turns(
+    rt: &impl Abort,
+    alloc: Global,
+    bytes: &str,
+    done: u64,
+    code: u8,
+) -> Result<Outside, Fail> {
+    let mut outside = Outside::new(alloc, "", &WAITS, bytes.as_bytes())?;
+    outside.fail_at([0, done.wrapping_add(1), 0, 0])?;
+    let line = "run --image a.bin --turns 20";
+    expect_code(rt, alloc, &mut outside, line, code)?;
+    Ok(outside)
+}
+
+// The next read of the input answers so many bytes.
+fn expect_read(rt: &impl Abort, outside: &mut Outside, want: usize, note: &str) {
+    let mut buf = [0u8; 32];
+    let read = outside.input.read(&mut buf);
+    same(rt, &read, &Ok(want), "what is read after", note);
+}
+
+// All reads of the input are made, and the next one is that which was to fail.
+fn expect_reads(
+    rt: &impl Abort,
+    alloc: Global,
+    bytes: &str,
+    report: &str,
+    reads: u64,
+) -> Result<(), Fail> {
+    let mut outside = twenty_turns(rt, alloc, bytes, reads, 0)?;
+    expect_written(rt, &outside, report, "", bytes);
+    let mut buf = [0u8; 2];
+    assert!(rt; outside.input.read(&mut buf).is_err(), "{bytes}");
+    expect_read(rt, &mut outside, 0, bytes);
+    Ok(())
+}
+
 #[test]
 fn a_byte_is_read_where_the_last_one_was_taken(rt: HostRuntime) -> Result<(), Fail> {
-    for (bytes, report, reads) in INPUTS {
-        let mut outside = Outside::new(rt.alloc(), "", &WAITS, bytes.as_bytes())?;
-        outside.fail_at([0, reads.wrapping_add(1), 0, 0])?;
-        assert_eq!(rt;
-            outside.call(rt.alloc(), "run --image a.bin --turns 20")?,
-            0,
-            "{bytes}"
-        );
-        assert_eq!(rt; outside.report.bytes(), report.as_bytes(), "{bytes}");
-        // the call that was to fail is the next one
-        let mut buf = [0u8; 2];
-        assert!(rt; outside.input.read(&mut buf).is_err(), "{bytes}");
-        assert_eq!(rt; outside.input.read(&mut buf), Ok(0), "{bytes}");
+    for &(bytes, report, reads) in &INPUTS {
+        expect_reads(&rt, rt.alloc(), bytes, report, reads)?;
     }
     Ok(())
 }
 
 // The read of the input after so many fails, and what these did not read is left.
 fn expect_failed_read(rt: &impl Abort, alloc: Global, bytes: &str, done: u64) -> Result<(), Fail> {
-    let mut outside = Outside::new(alloc, "", &WAITS, bytes.as_bytes())?;
-    outside.fail_at([0, done.wrapping_add(1), 0, 0])?;
-    assert_eq!(rt;
-        outside.call(alloc, "run --image a.bin --turns 20")?,
-        7,
-        "{bytes} {done}"
-    );
+    let mut outside = twenty_turns(rt, alloc, bytes, done, 7)?;
     expect_written(rt, &outside, "read fault input\n", "", bytes);
     let left = bytes.len().wrapping_sub(done as usize);
-    let mut buf = [0u8; 32];
-    assert_eq!(rt; outside.input.read(&mut buf), Ok(left), "{bytes} {done}");
+    expect_read(rt, &mut outside, left, bytes);
     Ok(())
 }
 
 #[test]
 fn each_read_of_the_input_may_fail(rt: HostRuntime) -> Result<(), Fail> {
-    for (bytes, _, reads) in INPUTS {
+    for &(bytes, _, reads) in &INPUTS {
         for done in 0..reads {
             expect_failed_read(&rt, rt.alloc(), bytes, done)?;
         }
@@ -173,29 +210,36 @@ fn each_read_of_the_input_may_fail(rt: HostRuntime) -> Result<(), Fail> {
     Ok(())
 }
 
+// Runs an image of so many bytes.
+fn expect_size(
+    rt: &impl Abort,
+    alloc: Global,
+    len: usize,
+    code: u8,
+    report: &'static str,
+) -> Result<(), Fail> {
+    let mut outside = Outside::new(alloc, "", &WAITS, b"")?;
+    let mut image = image_of(alloc, &WAITS)?;
+    for _ in image.len()..len {
+        image.push(0)?;
+    }
+    outside.files.put("a.bin", &image)?;
+    let row = Row {
+        line: "run --image a.bin --turns 1",
+        code,
+        report,
+        console: "",
+        trace: None,
+        left: "",
+    };
+    expect_row(rt, alloc, &mut outside, &row)?;
+    Ok(())
+}
+
 #[test]
 fn an_image_has_at_most_the_memory(rt: HostRuntime) -> Result<(), Fail> {
-    for (len, code, report) in [
-        (65_536, 0, "done turns=1 taken=0\n"),
-        (65_537, 4, "elf outside-ram 0\n"),
-    ] {
-        let mut outside = Outside::new(rt.alloc(), "", &WAITS, b"")?;
-        let mut image = image_of(rt.alloc(), &WAITS)?;
-        for _ in image.len()..len {
-            image.push(0)?;
-        }
-        outside.files.put("a.bin", &image)?;
-        let row = Row {
-            line: "run --image a.bin --turns 1",
-            code,
-            report,
-            console: "",
-            trace: None,
-            left: "",
-        };
-        expect_row(&rt, rt.alloc(), &mut outside, &row)?;
-    }
-    Ok(())
+    expect_size(&rt, rt.alloc(), 65_536, 0, "done turns=1 taken=0\n")?;
+    expect_size(&rt, rt.alloc(), 65_537, 4, "elf outside-ram 0\n")
 }
 
 const LARGE: &str = "{\"harts\":1,\"ram\":67108864,\"slice\":64,\"program\":\"p.elf\"}";
@@ -293,23 +337,29 @@ static WINDOWS: [Window; 11] = [
     ),
 ];
 
+fn expect_window(rt: &impl Abort, alloc: Global, window: Window) -> Result<(), Fail> {
+    let (config, word, input, code, report, left) = window;
+    let mut outside = Outside::new(alloc, config, &LETTER, input.as_bytes())?;
+    let program = elf(rt, (120, 4, u64::from(word)));
+    outside.files.put("p.elf", &program)?;
+    let row = Row {
+        line: "run --config c --turns 1000",
+        code,
+        report,
+        console: "",
+        trace: None,
+        left,
+    };
+    expect_row(rt, alloc, &mut outside, &row)?;
+    Ok(())
+}
+
 #[test]
 fn a_word_in_the_window_ends_the_run_and_leaves_the_offered_byte(
     rt: HostRuntime,
 ) -> Result<(), Fail> {
-    for (config, word, input, code, report, left) in WINDOWS {
-        let mut outside = Outside::new(rt.alloc(), config, &LETTER, input.as_bytes())?;
-        let program = elf(&rt, (120, 4, u64::from(word)));
-        outside.files.put("p.elf", &program)?;
-        let row = Row {
-            line: "run --config c --turns 1000",
-            code,
-            report,
-            console: "",
-            trace: None,
-            left,
-        };
-        expect_row(&rt, rt.alloc(), &mut outside, &row)?;
+    for &window in &WINDOWS {
+        expect_window(&rt, rt.alloc(), window)?;
     }
     Ok(())
 }
@@ -336,19 +386,33 @@ static REFUSED: [(&str, &str); 6] = [
     ),
 ];
 
+fn expect_refused(
+    rt: &impl Abort,
+    alloc: Global,
+    config: &'static str,
+    report: &'static str,
+) -> Result<(), Fail> {
+    let before = Before {
+        config,
+        words: &LETTER,
+        input: "xy",
+        calls: [0, 0, 0, 0],
+    };
+    let row = Row {
+        line: "run --config c --turns 1000 --trace t",
+        code: 3,
+        report,
+        console: "",
+        trace: None,
+        left: "xy",
+    };
+    expect_call(rt, alloc, before, &row)
+}
+
 #[test]
 fn a_configuration_that_is_refused_starts_nothing(rt: HostRuntime) -> Result<(), Fail> {
-    for (config, report) in REFUSED {
-        let mut outside = Outside::new(rt.alloc(), config, &LETTER, b"xy")?;
-        let row = Row {
-            line: "run --config c --turns 1000 --trace t",
-            code: 3,
-            report,
-            console: "",
-            trace: None,
-            left: "xy",
-        };
-        expect_row(&rt, rt.alloc(), &mut outside, &row)?;
+    for &(config, report) in &REFUSED {
+        expect_refused(&rt, rt.alloc(), config, report)?;
     }
     Ok(())
 }

@@ -3,8 +3,21 @@
 use crate::top::dromajo;
 use outside_io::{MemFiles, MemSink, MemSource, OutFault, Source};
 use std::alloc::{AllocError, Global};
+use std::fmt::Debug;
 use std::process::Abort;
 use std::test::Fail;
+
+// Compares what is there with what should be; the two texts say where. Each `assert_eq!` costs the check
+// seconds, a call of this one hardly any.
+pub(crate) fn same<T: PartialEq + Debug>(
+    rt: &impl Abort,
+    got: &T,
+    want: &T,
+    what: &str,
+    note: &str,
+) {
+    assert_eq!(rt; *got, *want, "{what} {note}");
+}
 
 // The words of a line, which stand apart by one space.
 pub(crate) fn words_of(alloc: Global, line: &str) -> Result<Vec<String>, AllocError> {
@@ -83,10 +96,10 @@ fn put(rt: &impl Abort, file: &mut [u8], field: Put) {
 // The ELF file with one field changed.
 pub(crate) fn elf(rt: &impl Abort, change: Put) -> [u8; ELF_SIZE] {
     let mut file = [0; ELF_SIZE];
-    for field in ELF {
+    for &field in &ELF {
         put(rt, &mut file, field);
     }
-    for field in ELF_SYMBOLS {
+    for &field in &ELF_SYMBOLS {
         put(rt, &mut file, field);
     }
     put(rt, &mut file, change);
@@ -114,7 +127,7 @@ static HEADERS: [u64; 12] = [
 pub(crate) fn program_of(alloc: Global, words: &[u32]) -> Result<Vec<u8>, AllocError> {
     let size = (words.len() as u64).wrapping_mul(4);
     let mut file = Vec::new(alloc);
-    for number in HEADERS {
+    for &number in &HEADERS {
         file.extend_from_slice(&number.to_le_bytes())?;
     }
     for number in [size, size, 4] {
@@ -189,23 +202,22 @@ pub(crate) fn expect_written(
     console: &str,
     note: &str,
 ) {
-    assert_eq!(rt;
-        outside.report.bytes(),
-        report.as_bytes(),
-        "the report of {note}"
-    );
-    assert_eq!(rt;
-        outside.out.bytes(),
-        console.as_bytes(),
-        "the console of {note}"
-    );
+    let (line, sent) = (outside.report.bytes(), outside.out.bytes());
+    same(rt, &line, &report.as_bytes(), "the report of", note);
+    same(rt, &sent, &console.as_bytes(), "the console of", note);
 }
 
 // What the input has left.
 pub(crate) fn expect_left(rt: &impl Abort, outside: &mut Outside, left: &str, note: &str) {
     let mut buf = [0u8; 32];
     match outside.input.read(&mut buf) {
-        Ok(count) => assert_eq!(rt; &buf[..count], left.as_bytes(), "the input after {note}"),
+        Ok(count) => same(
+            rt,
+            &&buf[..count],
+            &left.as_bytes(),
+            "the input after",
+            note,
+        ),
         Err(_) => panic!(rt; "the input failed after {note}"),
     }
 }
@@ -220,10 +232,41 @@ pub(crate) fn expect_file(
 ) {
     match (outside.files.bytes(name), want) {
         (Some(bytes), Some(want)) => {
-            assert_eq!(rt; bytes, want.as_bytes(), "{name} after {note}");
+            same(rt, &bytes, &want.as_bytes(), name, note);
         }
         (None, None) => {}
         _ => panic!(rt; "{name} after {note}"),
+    }
+}
+
+// Makes the call with the words of a line, which is to have this status.
+pub(crate) fn expect_code(
+    rt: &impl Abort,
+    alloc: Global,
+    outside: &mut Outside,
+    line: &str,
+    want: u8,
+) -> Result<(), AllocError> {
+    let code = outside.call(alloc, line)?;
+    same(rt, &code, &want, "the status of", line);
+    Ok(())
+}
+
+// What a call begins with: the configuration `c`, the program of `p.elf` and `a.bin`, the input, and the
+// number of the call of the files, the input, the output and the report that fails, 0 for none.
+#[derive(Clone, Copy)]
+pub(crate) struct Before {
+    pub(crate) config: &'static str,
+    pub(crate) words: &'static [u32],
+    pub(crate) input: &'static str,
+    pub(crate) calls: [u64; 4],
+}
+
+impl Before {
+    pub(crate) fn outside(self, alloc: Global) -> Result<Outside, Fail> {
+        let mut outside = Outside::new(alloc, self.config, self.words, self.input.as_bytes())?;
+        outside.fail_at(self.calls)?;
+        Ok(outside)
     }
 }
 
@@ -248,10 +291,21 @@ pub(crate) fn expect_row(
     outside: &mut Outside,
     row: &Row,
 ) -> Result<(), AllocError> {
-    let code = outside.call(alloc, row.line)?;
-    assert_eq!(rt; code, row.code, "{}", row.line);
+    expect_code(rt, alloc, outside, row.line, row.code)?;
     expect_written(rt, outside, row.report, row.console, row.line);
     expect_file(rt, outside, "t", row.trace, row.line);
     expect_left(rt, outside, row.left, row.line);
+    Ok(())
+}
+
+// Makes the call of a row after this.
+pub(crate) fn expect_call(
+    rt: &impl Abort,
+    alloc: Global,
+    before: Before,
+    row: &Row,
+) -> Result<(), Fail> {
+    let mut outside = before.outside(alloc)?;
+    expect_row(rt, alloc, &mut outside, row)?;
     Ok(())
 }

@@ -2,11 +2,13 @@
 // its assembly beside it, and the lines are reckoned by hand.
 
 use crate::test_support::{
-    Outside, Row, expect_file, expect_row, expect_written, program_of, words_of,
+    Outside, Row, expect_file, expect_row, expect_written, program_of, same, words_of,
 };
 use crate::top::dromajo;
 use outside_io::DirFiles;
+use std::alloc::Global;
 use std::fs;
+use std::process::Abort;
 use std::test::Fail;
 
 // A configuration, a program and a call.
@@ -184,13 +186,24 @@ static TRACED: [Traced; 5] = [
     ),
 ];
 
+fn expect_traced(
+    rt: &impl Abort,
+    alloc: Global,
+    config: &str,
+    program: &[u32],
+    row: &Row,
+) -> Result<(), Fail> {
+    let mut outside = Outside::new(alloc, config, program, b"")?;
+    outside.files.put("t", b"what stood there before\n")?;
+    expect_row(rt, alloc, &mut outside, row)?;
+    expect_file(rt, &outside, "c", Some(config), row.line);
+    Ok(())
+}
+
 #[test]
 fn each_step_has_its_line(rt: HostRuntime) -> Result<(), Fail> {
-    for (config, program, row) in TRACED {
-        let mut outside = Outside::new(rt.alloc(), config, program, b"")?;
-        outside.files.put("t", b"what stood there before\n")?;
-        expect_row(&rt, rt.alloc(), &mut outside, &row)?;
-        expect_file(&rt, &outside, "c", Some(config), row.line);
+    for (config, program, row) in &TRACED {
+        expect_traced(&rt, rt.alloc(), config, program, row)?;
     }
     Ok(())
 }
@@ -226,30 +239,42 @@ static PATHS: [(&str, u8, &str); 2] = [
     ),
 ];
 
+// Makes a call over the file system: the status's number, and the objects outside.
+fn call_in_folder(rt: &HostRuntime, line: &str) -> Result<(u8, Outside), Fail> {
+    let mut files = DirFiles::new(rt);
+    let mut outside = Outside::new(rt.alloc(), "", &[], b"")?;
+    let words = words_of(rt.alloc(), line)?;
+    let status = dromajo(
+        rt.alloc(),
+        &words,
+        &mut files,
+        &mut outside.input,
+        &mut outside.out,
+        &mut outside.report,
+    );
+    Ok((status.code(), outside))
+}
+
 #[test]
 fn a_trace_is_written_to_the_file_system(rt: HostRuntime) -> Result<(), Fail> {
     fs::write(&rt, "c", ONE_STEP)?;
     let program = program_of(rt.alloc(), &NOWHERE)?;
     fs::write(&rt, "p.elf", program.as_slice())?;
-    for (line, code, report) in PATHS {
-        let mut files = DirFiles::new(&rt);
-        let mut outside = Outside::new(rt.alloc(), "", &[], b"")?;
-        let words = words_of(rt.alloc(), line)?;
-        let status = dromajo(
-            rt.alloc(),
-            &words,
-            &mut files,
-            &mut outside.input,
-            &mut outside.out,
-            &mut outside.report,
-        );
-        assert_eq!(rt; status.code(), code, "{line}");
+    for &(line, code, report) in &PATHS {
+        let (got, outside) = call_in_folder(&rt, line)?;
+        same(&rt, &got, &code, "the status of", line);
         expect_written(&rt, &outside, report, "", line);
     }
     let trace = fs::read_to_string(&rt, "t")?;
     let lines = "C 0 M 0000000080000000 000102b7 x5 0000000000010000\n\
                  X 0 M 0000000080000004 5 0000000000010000\n";
-    assert_eq!(rt; trace.as_str(), lines);
+    same(
+        &rt,
+        &trace.as_str(),
+        &lines,
+        "the trace",
+        "in the file system",
+    );
     for name in ["c", "p.elf", "t"] {
         fs::remove_file(&rt, name)?;
     }

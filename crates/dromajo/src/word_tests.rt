@@ -3,7 +3,7 @@
 
 use crate::report::report_line;
 use crate::status::{Status, Which};
-use crate::test_support::words_of;
+use crate::test_support::{same, words_of};
 use crate::words::{Job, Source, named_job};
 use elf_load::{ElfFault, ElfField};
 use sim_config::{ConfigFault, Key};
@@ -85,20 +85,30 @@ static NO_JOBS: [&str; 30] = [
     "run image a --turns 1",
 ];
 
+// The words of a line name this job, or none.
+fn expect_job(
+    rt: &impl Abort,
+    alloc: Global,
+    line: &str,
+    want: Option<Job<'_>>,
+) -> Result<(), AllocError> {
+    let words = words_of(alloc, line)?;
+    same(rt, &named_job(&words), &want, "the job of", line);
+    Ok(())
+}
+
 #[test]
 fn words_name_their_job(rt: HostRuntime) -> Result<(), AllocError> {
-    for (line, source, turns, trace) in JOBS {
-        let words = words_of(rt.alloc(), line)?;
+    for &(line, source, turns, trace) in &JOBS {
         let want = Job::Run {
             source,
             turns,
             trace,
         };
-        assert_eq!(rt; named_job(&words), Some(want), "{line}");
+        expect_job(&rt, rt.alloc(), line, Some(want))?;
     }
-    for line in NO_JOBS {
-        let words = words_of(rt.alloc(), line)?;
-        assert_eq!(rt; named_job(&words), None, "{line}");
+    for &line in &NO_JOBS {
+        expect_job(&rt, rt.alloc(), line, None)?;
     }
     Ok(())
 }
@@ -155,28 +165,43 @@ fn expect(
     code: u8,
     text: &str,
 ) -> Result<(), AllocError> {
-    assert_eq!(rt; status.code(), code, "{text}");
+    same(rt, &status.code(), &code, "the status of", text);
     let line = report_line(alloc, &status, 12, 17)?;
-    assert_eq!(rt; line.as_str().strip_suffix('\n'), Some(text));
+    let report = line.as_str().strip_suffix('\n');
+    same(rt, &report, &Some(text), "the report of", text);
     Ok(())
+}
+
+// The same, where the text has a name after it.
+fn expect_named(
+    rt: &impl Abort,
+    alloc: Global,
+    status: Status,
+    code: u8,
+    text: &str,
+    name: &str,
+) -> Result<(), AllocError> {
+    let line = format!(in alloc; "{text} {name}")?;
+    expect(rt, alloc, status, code, line.as_str())
+}
+
+// The faults of a key.
+fn expect_key(rt: &impl Abort, alloc: Global, key: Key, name: &str) -> Result<(), AllocError> {
+    let status = Status::BadConfig(ConfigFault::Missing(key));
+    expect_named(rt, alloc, status, 3, "config missing", name)?;
+    let status = Status::BadConfig(ConfigFault::WrongKind(key));
+    expect_named(rt, alloc, status, 3, "config wrong-kind", name)?;
+    let status = Status::BadConfig(ConfigFault::OutOfRange(key));
+    expect_named(rt, alloc, status, 3, "config out-of-range", name)
 }
 
 #[test]
 fn a_refused_file_is_reported_by_its_fault(rt: HostRuntime) -> Result<(), AllocError> {
-    let alloc = rt.alloc();
-    for (key, name) in KEYS {
-        let missing = format!(in alloc; "config missing {name}")?;
-        let status = Status::BadConfig(ConfigFault::Missing(key));
-        expect(&rt, alloc, status, 3, missing.as_str())?;
-        let wrong_kind = format!(in alloc; "config wrong-kind {name}")?;
-        let status = Status::BadConfig(ConfigFault::WrongKind(key));
-        expect(&rt, alloc, status, 3, wrong_kind.as_str())?;
-        let out_of_range = format!(in alloc; "config out-of-range {name}")?;
-        let status = Status::BadConfig(ConfigFault::OutOfRange(key));
-        expect(&rt, alloc, status, 3, out_of_range.as_str())?;
+    for &(key, name) in &KEYS {
+        expect_key(&rt, rt.alloc(), key, name)?;
     }
-    for (fault, text) in ELF_FAULTS {
-        expect(&rt, alloc, Status::BadElf(fault), 4, text)?;
+    for &(fault, text) in &ELF_FAULTS {
+        expect(&rt, rt.alloc(), Status::BadElf(fault), 4, text)?;
     }
     Ok(())
 }
@@ -206,7 +231,7 @@ static ENDS: [(u64, u64, &str, &str); 3] = [
 #[test]
 fn an_end_is_reported_by_its_numbers(rt: HostRuntime) -> Result<(), AllocError> {
     let alloc = rt.alloc();
-    for (n, turn, ended, bad) in ENDS {
+    for &(n, turn, ended, bad) in &ENDS {
         expect(&rt, alloc, Status::GuestEnded { code: n, turn }, 10, ended)?;
         expect(&rt, alloc, Status::BadHostWord { word: n, turn }, 11, bad)?;
     }
@@ -223,17 +248,30 @@ fn other_statuses_have_their_number_and_line(rt: HostRuntime) -> Result<(), Allo
     expect(&rt, alloc, not_json, 3, "config not-json")?;
     let too_long = Status::BadConfig(ConfigFault::TooLong(65_537));
     expect(&rt, alloc, too_long, 3, "config too-long 65537")?;
-    expect(&rt, alloc, Status::NoMemory, 9, "no memory")?;
-    for (which, name) in [
-        (Which::Files, "files"),
-        (Which::Input, "input"),
-        (Which::Out, "out"),
-        (Which::Report, "report"),
-    ] {
-        let read = format!(in alloc; "read fault {name}")?;
-        expect(&rt, alloc, Status::ReadFault(which), 7, read.as_str())?;
-        let write = format!(in alloc; "write fault {name}")?;
-        expect(&rt, alloc, Status::WriteFault(which), 8, write.as_str())?;
+    expect(&rt, alloc, Status::NoMemory, 9, "no memory")
+}
+
+// The objects outside.
+static OBJECTS: [(Which, &str); 4] = [
+    (Which::Files, "files"),
+    (Which::Input, "input"),
+    (Which::Out, "out"),
+    (Which::Report, "report"),
+];
+
+#[test]
+fn a_fault_is_reported_by_its_object(rt: HostRuntime) -> Result<(), AllocError> {
+    let alloc = rt.alloc();
+    for &(which, name) in &OBJECTS {
+        expect_named(&rt, alloc, Status::ReadFault(which), 7, "read fault", name)?;
+        expect_named(
+            &rt,
+            alloc,
+            Status::WriteFault(which),
+            8,
+            "write fault",
+            name,
+        )?;
     }
     Ok(())
 }
