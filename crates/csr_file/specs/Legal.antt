@@ -4,7 +4,8 @@ use Rattle.std.specs.List.{list_any}
 use Rattle.csr_file.specs.Numbers.{csr_dcsr, csr_dpc, csr_dscratch0, csr_dscratch1, csr_mcause, csr_mcounteren, csr_mcycle, csr_medeleg, csr_menvcfg, csr_mepc, csr_mideleg, csr_mie, csr_minstret, csr_mip, csr_mscratch, csr_mstatus, csr_mtval, csr_mtvec, csr_satp, csr_scause, csr_scounteren, csr_senvcfg, csr_sepc, csr_sscratch, csr_stval, csr_stvec}
 use Rattle.csr_file.specs.Bits.{all_bits, all_interrupts, counter_bits, dcsr_fixed, envcfg_fiom, even, medeleg_bits, mstatus_bits, mstatus_mpp, mstatus_mpp_reserved, mstatus_xlen, supervisor_interrupts, vector_bits}
 
--- the value at reset of a register that keeps a value
+-- the value at reset of a register that keeps a value (Privileged ISA, "Reset"; External Debug Support, "Debug Control
+-- and Status")
 unfoldable pub reset_value : ℕ → ℕ
 reset_value number = if number == csr_mstatus then mstatus_xlen else if number == csr_dcsr then dcsr_fixed + 3 else 0
 

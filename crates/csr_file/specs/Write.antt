@@ -1,4 +1,5 @@
--- What a write to a register leaves.
+-- What a write to a register leaves (Privileged ISA, "CSR Field Specifications"; of the views, "Supervisor Status
+-- Register", "Supervisor Interrupt Registers").
 use Rattle.std.specs.Prelude.{ℕ, ◌-◌, ◌==◌, bit_and, bit_or, if◌then◌else◌}
 use Rattle.csr_file.specs.Numbers.{csr_mie, csr_mip, csr_mstatus, csr_sie, csr_sip, csr_sstatus}
 use Rattle.csr_file.specs.Bits.{all_bits, sstatus_bits, supervisor_software}

@@ -3,8 +3,7 @@ use Rattle.std.specs.Prelude.{◌≡◌, ◌≤◌, ℕ, ◌+◌, List, length, 
 use Rattle.std.specs.Io.KnownBytes.{Appends}
 use Rattle.outside_io.specs.Content.{Held, KeepsOthers, Told}
 use Rattle.hart_turns.specs.declared.machine.TurnEnd.{TurnEnd}
-use Rattle.hart_turns.specs.Kept.{MachineView}
-use Rattle.hart_turns.specs.Machine.{MachineState}
+use Rattle.hart_turns.specs.Machine.{MachineState, MachineView}
 use Rattle.dromajo.specs.declared.feed.Feed.{Feed}
 use Rattle.dromajo.specs.Run.{trace_lines, turn_on}
 

@@ -1,12 +1,11 @@
 -- What the code keeps of a turn.
 use Rattle.std.specs.Prelude.{◌≡◌, ℕ, ◌+◌, ◌*◌, ◌≤◌, List, ◌++◌, All, length}
 use Rattle.board_bus.specs.Board.{after_load, hart_count, sent, stored}
-use Rattle.hart_step.specs.declared.event.Event.{Event}
 use Rattle.hart_step.specs.Events.{IsEvent}
 use Rattle.hart_turns.specs.declared.outside.Outside.{Outside}
 use Rattle.hart_turns.specs.declared.running.Running.{Running}
 use Rattle.sim_config.specs.declared.values.Shape.{Shape}
-use Rattle.hart_turns.specs.Machine.{FitsShape, MachineState}
+use Rattle.hart_turns.specs.Machine.{FitsShape}
 use Rattle.hart_turns.specs.Turn.{Progress}
 
 -- what stands around the harts after a load from a device register, and after a store to one
@@ -18,12 +17,6 @@ outside_stored s h at size value ram = record {
   board = stored s.board at size value;
   output = record s.output { bytes = s.output.bytes ++ sent ram s.board at size value };
 }
-
--- a machine, with the console bytes and the events of its last turn
-pub record MachineView : Type 0 where
-  pub machine : MachineState
-  pub console : List ℕ
-  pub events : List Event
 
 -- what is kept of the turn, as the definitions see it
 abbrev pub progress_of : Running → Progress

@@ -3,6 +3,7 @@ use Rattle.std.specs.Prelude.{◌≡◌, ℕ, Bool, List, is_none, length}
 use Rattle.sim_config.specs.declared.values.Shape.{Shape}
 use Rattle.sim_config.specs.Ranges.{IsShape}
 use Rattle.board_bus.specs.Board.{BoardState, hart_count, reset_board}
+use Rattle.hart_step.specs.declared.event.Event.{Event}
 use Rattle.hart_step.specs.Harts.{CoreState, lowest_in_debug, reset_core}
 
 pub record MachineState : Type 0 where
@@ -10,6 +11,12 @@ pub record MachineState : Type 0 where
   pub core : CoreState
   pub board : BoardState
   pub taken : ℕ
+
+-- a machine, with the console bytes and the events of its last turn
+pub record MachineView : Type 0 where
+  pub machine : MachineState
+  pub console : List ℕ
+  pub events : List Event
 
 -- a machine at reset: its harts begin at the entry, its devices are at reset, and no input byte was taken
 abbrev pub reset_machine : Shape → List ℕ → ℕ → MachineState

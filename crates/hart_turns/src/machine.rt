@@ -47,7 +47,8 @@ pub struct Machine {
 
 impl Model for Machine {
     ghost use Rattle.std.specs.Prelude.{◌≡◌, ◌≤◌, ◌+◌, ◌*◌};
-    ghost use Rattle.hart_turns.specs.Kept.{IsMachine, MachineView};
+    ghost use Rattle.hart_turns.specs.Kept.{IsMachine};
+    ghost use Rattle.hart_turns.specs.Machine.{MachineView};
 
     ghost Value = { MachineView };
 

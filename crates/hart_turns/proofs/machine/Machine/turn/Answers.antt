@@ -2,8 +2,8 @@
 use Rattle.std.proofs.Common.{◌≡◌, ap, sym, ◌∙◌, arith}
 use Rattle.hart_turns.specs.contracts.machine.Machine.{the_view}
 use Rattle.hart_turns.specs.declared.machine.TurnEnd.TheVariants.{Goes, Ended, BadHost}
-use Rattle.hart_turns.specs.Kept.{MachineView, progress_of}
-use Rattle.hart_turns.specs.Machine.{MachineState}
+use Rattle.hart_turns.specs.Kept.{progress_of}
+use Rattle.hart_turns.specs.Machine.{MachineState, MachineView}
 use Rattle.hart_turns.specs.Turn.{Progress, Turned, turned, turned_to}
 use Rattle.hart_turns.proofs.Turns.{turned_is}
 use Rattle.hart_turns.proofs.machine.Machine.turn.Goals as goal
