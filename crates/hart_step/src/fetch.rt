@@ -41,9 +41,9 @@ fn parcel(hart: &Hart, memory: &mut Memory, va: u64) -> Result<u64, Exception>
     Err(Exception::access(Kind::Fetch, va))
 }
 
-/// Fetches the parcels at the hart's pc, the first one in the low half; one that ends the instruction may
-/// have anything above it. Machine mode has no translation, so that both are read at once where RAM holds
-/// them.
+/// Fetches the two parcels at the hart's pc, the first one in the low half; where that is an instruction of
+/// its own, what stands above it means nothing. Machine mode has no translation, so that both are read at
+/// once where RAM holds them.
 #[inline(always)]
 pub(crate) fn fetch(hart: &Hart, memory: &mut Memory) -> Result<u32, Exception>
     requires { IsFitHart hart.now }
