@@ -10,8 +10,7 @@ use Rattle.hart_step.specs.declared.event.Priv.{Priv}
 use Rattle.hart_step.specs.declared.event.Priv.TheVariants.{U, S, M, D}
 use Rattle.hart_step.specs.declared.event.Put.{Put}
 use Rattle.guest_ram.specs.Bytes.{IsSize}
-use Rattle.hart_step.specs.Events.{IsStored}
-use Rattle.commit_log.specs.Spelling.{answer_part, HasSpelling, hex, hex_digit, line, mode_letter, number, place, register_part, store_part, volatile_part, word}
+use Rattle.commit_log.specs.Spelling.{answer_part, HasSpelling, hex, hex_digit, IsStorePart, line, mode_letter, number, place, register_part, store_part, volatile_part, word}
 
 -- no newline, and at most n characters
 record Plain (xs : List ℕ) (n : ℕ) : Type 0 where
@@ -81,7 +80,7 @@ size_most n is = grind arith
 value_plain : (size value : ℕ) → size ≤ 8 → Plain (word (2 * size) value) 17
 value_plain size value most = within _ (1 + 2 * size) 17 (omega arith) (word_plain (2 * size) value)
 
-store_plain : (st : Option Put) → IsStored st → Plain (store_part st) 39
+store_plain : (st : Option Put) → IsStorePart st → Plain (store_part st) 39
 store_plain None good = within [] 0 39 (omega arith) none
 store_plain (Some st) good =
     more 32 _ 38 (omega arith) (more 115 _ 37 (omega arith) (more 116 _ 36 (omega arith)

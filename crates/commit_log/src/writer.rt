@@ -1,8 +1,7 @@
 // The line of an event.
 
 ghost use Rattle.std.specs.Prelude.{◌≡◌, ◌+◌, ◌<◌, ◌≤◌, ◌++◌, ◌∷◌, length};
-ghost use Rattle.hart_step.specs.Events.{IsStored, IsWritten};
-ghost use Rattle.commit_log.specs.Spelling.{answer_part, HasSpelling, line, mode_letter, place, register_part, store_part, volatile_part};
+ghost use Rattle.commit_log.specs.Spelling.{answer_part, HasSpelling, IsRegisterPart, IsStorePart, line, mode_letter, place, register_part, store_part, volatile_part};
 
 use crate::line_buf::LineBuf;
 use hart_step::{Event, Priv, Put};
@@ -35,7 +34,7 @@ fn put_place(buf: &mut LineBuf, letter: u8, hart: u8, mode: Priv, pc: u64)
 }
 
 fn put_register(buf: &mut LineBuf, rd: Option<(u8, u64)>)
-    requires register { IsWritten rd }
+    requires register { IsRegisterPart rd }
     requires room { length buf.old + 21 ≤ 255 }
     ensures value { buf.new ≡ buf.old ++ register_part rd }
     ensures length { length buf.new ≤ length buf.old + 21 }
@@ -48,7 +47,7 @@ fn put_register(buf: &mut LineBuf, rd: Option<(u8, u64)>)
 }
 
 fn put_store(buf: &mut LineBuf, st: Option<Put>)
-    requires store { IsStored st }
+    requires store { IsStorePart st }
     requires room { length buf.old + 39 ≤ 255 }
     ensures value { buf.new ≡ buf.old ++ store_part st }
     ensures length { length buf.new ≤ length buf.old + 39 }

@@ -1,4 +1,4 @@
--- The number of each status, with which the program ends.
+-- The number of each status, with which the program ends. The statuses and their numbers are this project's own.
 use Rattle.std.specs.Prelude.{ℕ}
 use Rattle.dromajo.specs.declared.status.Status.{Status}
 use Rattle.dromajo.specs.declared.status.Status.TheVariants.{Done, Usage, BadConfig, BadElf, ReadFault, WriteFault, NoMemory, GuestEnded, BadHostWord}

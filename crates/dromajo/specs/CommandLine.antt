@@ -1,4 +1,5 @@
--- The job that the words of the command line name: a command, and then pairs of a name and a value.
+-- The job that the words of the command line name: a command, and then pairs of a name and a value. The commands, the
+-- names and the ranges of their values are this project's own.
 use Rattle.std.specs.Prelude.{ℕ, ◌==◌, ◌&&◌, Bool, true, false, not, List, [], ◌∷◌, length, Option, Some, None, codes, slice_index, String, nat_le, nat_lt, if◌then◌else◌, map, string_bytes}
 use Rattle.std.specs.declared.alloc.Global.{Global}
 use Rattle.std.specs.Char.{is_ascii_digit}

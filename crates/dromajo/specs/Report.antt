@@ -1,4 +1,4 @@
--- The one line that the program reports.
+-- The one line that the program reports. Its words and their values are this project's own.
 use Rattle.std.specs.Prelude.{ℕ, List, [], ◌∷◌, ◌++◌, codes, decimal}
 use Rattle.commit_log.specs.Spelling.{hex}
 use Rattle.sim_config.specs.declared.fault.ConfigFault.{ConfigFault}

@@ -78,6 +78,7 @@ fn push_lines(text: &mut Vec<u8>, events: &[Event]) -> Result<(), AllocError>
 
 /// Appends the lines of the last turn to the trace, where there is one. `text` is a buffer that is
 /// used again in each turn.
+#[tactic(auto, using(crate::proofs::Lines::events_spelled))]
 fn log<F: Files>(
     machine: &Machine,
     trace: Option<&str>,
