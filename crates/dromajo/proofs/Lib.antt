@@ -11,3 +11,4 @@ pub mod Runs
 pub mod Cuts
 pub mod Results
 pub mod Leaving
+pub mod Refusals

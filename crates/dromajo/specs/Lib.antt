@@ -10,3 +10,4 @@ pub mod Causes
 pub mod Standing
 pub mod Cut
 pub mod TopCall
+pub mod Refusal

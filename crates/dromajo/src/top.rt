@@ -8,6 +8,7 @@ ghost use Rattle.dromajo.specs.CommandLine.{job_of, texts};
 ghost use Rattle.dromajo.specs.CommandLine.{Run as RunJob};
 ghost use Rattle.dromajo.specs.Cut.{MayBeStarted};
 ghost use Rattle.dromajo.specs.Feeding.{AppendsFront, HoldsTrace};
+ghost use Rattle.dromajo.specs.Refusal.{AnswersRefusal, refusal_of};
 ghost use Rattle.dromajo.specs.TopCall.{HasCause, HasJobCause, IsBefore, IsFinished, IsJobResult, IsSettled, IsUsage, JobLeaves, Leaves, NonePassedOver, Reported, Reports, counts, failed_report, job_result, result_of};
 ghost use Rattle.dromajo.specs.Walk.{source_seen, text_seen};
 
@@ -64,6 +65,9 @@ fn run_source<F: Files, I: Source, O: Sink>(
         IsJobResult (job_result (RunJob (source_seen source.entry) turns (option_map text_seen trace.entry)) held bytes)
         result.status result.turns result.taken (O.written out.old) (O.written out.new)
         held (F.held files.new) bytes (I.left input.new)) }
+    ensures refusal { IsSettled result.status → IfSome (F.held files.old) (λ held.
+        AnswersRefusal (refusal_of (Some (RunJob (source_seen source.entry) turns (option_map text_seen trace.entry))) held)
+        result.status) }
     ensures front { IfSome (F.held files.old) (λ held.
         (bytes : List ℕ) → I.left input.old ≡ Some bytes →
         AppendsFront (O.written out.old) (O.written out.new)
@@ -105,6 +109,8 @@ fn perform<F: Files, I: Source, O: Sink>(
         IsJobResult (result_of (job_of (texts words.now)) held bytes)
         result.status result.turns result.taken (O.written out.old) (O.written out.new)
         held (F.held files.new) bytes (I.left input.new)) }
+    ensures refusal { IsSettled result.status → IfSome (F.held files.old) (λ held.
+        AnswersRefusal (refusal_of (job_of (texts words.now)) held) result.status) }
     ensures front { IfSome (F.held files.old) (λ held.
         (bytes : List ℕ) → I.left input.old ≡ Some bytes →
         AppendsFront (O.written out.old) (O.written out.new)
@@ -183,6 +189,11 @@ pub fn dromajo<F: Files, I: Source, O: Sink, E: Sink>(
         IfSome (I.left input.old) (λ bytes.
         Leaves (result_of (job_of (texts words.now.items)) held bytes) result
         (O.written out.old) (O.written out.new) held (F.held files.new) bytes (I.left input.new))) }
+
+    // A refusal is answered exactly where the words, or what the files hold, give it, whatever the
+    // input has left.
+    ensures refusal { IsFinished result → IfSome (F.held files.old) (λ held.
+        AnswersRefusal (refusal_of (job_of (texts words.now.items)) held) result) }
 
     // Whatever the status, the console got a front of the bytes that the job sends.
     ensures front { IfSome (F.held files.old) (λ held. IfSome (I.left input.old) (λ bytes.
