@@ -12,3 +12,4 @@ pub mod Cuts
 pub mod Results
 pub mod Leaving
 pub mod Refusals
+pub mod Quiets

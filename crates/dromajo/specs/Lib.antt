@@ -11,3 +11,4 @@ pub mod Standing
 pub mod Cut
 pub mod TopCall
 pub mod Refusal
+pub mod Quiet

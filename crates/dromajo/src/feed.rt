@@ -1,7 +1,7 @@
 // The console's input, byte by byte.
 
 ghost use Rattle.std.specs.Prelude.{◌≡◌, ◌+◌, ◌≢◌, ◌≤◌, Err, ℕ, List, IsTrue, None, OnErr, OnOk, Some, if◌then◌else◌};
-ghost use Rattle.outside_io.specs.Causes.{HasCause};
+ghost use Rattle.outside_io.specs.Causes.{HasCause, StaysQuiet};
 ghost use Rattle.outside_io.specs.declared.OutFault.TheVariants.{NoMemory};
 ghost use Rattle.dromajo.specs.Cut.{ReadNothing};
 ghost use Rattle.dromajo.specs.Feeding.{IsFed, IsFilled, held_count};
@@ -36,6 +36,7 @@ impl Feed {
         ensures unread { OnErr result (ReadNothing self.old (I.left input.old) (I.left input.new)) }
         ensures cause { HasCause (I.faults input.old) (I.faults input.new) result }
         ensures never_starved { result ≢ Err NoMemory }
+        ensures calm { I.quiet input.old → StaysQuiet (I.quiet input.new) result }
     {
         if self.held.is_some() {
             return Ok(());

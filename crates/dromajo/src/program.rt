@@ -1,12 +1,13 @@
 // Loading the program that a run begins with.
 
 ghost use Rattle.std.specs.Prelude.{◌≡◌, ◌≤◌, ℕ, Err, IfErr, IfOk, IfSome, Ok, OnOk, length};
-ghost use Rattle.outside_io.specs.Content.{Told, file_of};
+ghost use Rattle.outside_io.specs.Content.{IsHeld, Told, file_of};
 ghost use Rattle.sim_config.specs.Ranges.{IsConfig};
 ghost use Rattle.sim_config.specs.Reading.{config_of};
 ghost use Rattle.elf_load.specs.Loading.{HasHeader};
 ghost use Rattle.dromajo.specs.CommandLine.{FromConfig, FromImage};
 ghost use Rattle.dromajo.specs.Program.{IsRefused, IsStart, config_refusal, flat_ram, image_start, start_of, start_of_program, symbol_window, window_of};
+ghost use Rattle.dromajo.specs.Quiet.{GoesQuietly, HoldsFiles, IsFault};
 ghost use Rattle.dromajo.specs.Walk.{source_seen};
 
 use crate::reading::{Contents, read_file};
@@ -73,6 +74,7 @@ fn load_image<F: Files>(alloc: Global, files: &mut F, name: &str) -> Result<Star
     ensures content { Told (F.held files.old) (F.held files.new) (λ old new. new ≡ old) }
     ensures count { OnOk result (F.read_faults files.new ≡ F.read_faults files.old) }
     ensures other_count { F.write_faults files.new ≡ F.write_faults files.old }
+    ensures calm { F.quiet files.old → IsHeld (F.held files.old) name.now → GoesQuietly (F.quiet files.new) result }
 {
     let contents = read_file(alloc, files, name, FLAT_RAM)?;
     match contents {
@@ -83,7 +85,8 @@ fn load_image<F: Files>(alloc: Global, files: &mut F, name: &str) -> Result<Star
 
 /// The status of a configuration's fault: want of memory has a status of its own.
 fn config_refusal(fault: ConfigFault) -> Status
-    ensures { result ≡ config_refusal fault }
+    ensures status { result ≡ config_refusal fault }
+    ensures unfailed { IsFault result → ⊥ }
 {
     match fault {
         ConfigFault::NoMemory => Status::NoMemory,
@@ -102,6 +105,7 @@ fn load_config<F: Files>(alloc: Global, files: &mut F, name: &str) -> Result<Con
     ensures content { Told (F.held files.old) (F.held files.new) (λ old new. new ≡ old) }
     ensures count { OnOk result (F.read_faults files.new ≡ F.read_faults files.old) }
     ensures other_count { F.write_faults files.new ≡ F.write_faults files.old }
+    ensures calm { F.quiet files.old → IsHeld (F.held files.old) name.now → GoesQuietly (F.quiet files.new) result }
 {
     let contents = read_file(alloc, files, name, LONGEST_CONFIG)?;
     let text = match contents {
@@ -148,6 +152,7 @@ fn program_start(alloc: Global, config: &Config, file: &[u8]) -> Result<Start, S
     ensures refused { IfErr result (λ status. (n : ℕ) →
         IsRefused status (start_of_program config.now file.now ≡ Err status) n n) }
     ensures fit { IfOk result IsStart }
+    ensures unfailed { IfErr result (λ status. IsFault status → ⊥) }
 {
     let mut ram = match GuestRam::new(alloc, config.ram) {
         Ok(ram) => ram,
@@ -186,6 +191,7 @@ fn load_program<F: Files>(alloc: Global, files: &mut F, config: &Config) -> Resu
     ensures content { Told (F.held files.old) (F.held files.new) (λ old new. new ≡ old) }
     ensures count { OnOk result (F.read_faults files.new ≡ F.read_faults files.old) }
     ensures other_count { F.write_faults files.new ≡ F.write_faults files.old }
+    ensures calm { F.quiet files.old → IsHeld (F.held files.old) config.now.program → GoesQuietly (F.quiet files.new) result }
 {
     let contents = read_file(alloc, files, config.program.as_str(), LONGEST_ELF)?;
     match contents {
@@ -210,6 +216,8 @@ pub(crate) fn load_start<F: Files>(
     ensures content { Told (F.held files.old) (F.held files.new) (λ old new. new ≡ old) }
     ensures count { OnOk result (F.read_faults files.new ≡ F.read_faults files.old) }
     ensures other_count { F.write_faults files.new ≡ F.write_faults files.old }
+    ensures calm { F.quiet files.old → HoldsFiles (F.held files.old) (source_seen source.entry) →
+        GoesQuietly (F.quiet files.new) result }
 {
     match source {
         Source::Image(name) => load_image(alloc, files, name),
@@ -218,6 +226,7 @@ pub(crate) fn load_start<F: Files>(
 }
 
 /// The start of a configuration and its program.
+#[tactic(auto, using(crate::proofs::Quiets::program_held))]
 fn load_configured<F: Files>(alloc: Global, files: &mut F, name: &str) -> Result<Start, Status>
     ensures start { IfOk result (λ start. IfSome (F.held files.old) (λ held.
         start_of held (FromConfig name.now) ≡ Ok start)) }
@@ -228,6 +237,8 @@ fn load_configured<F: Files>(alloc: Global, files: &mut F, name: &str) -> Result
     ensures content { Told (F.held files.old) (F.held files.new) (λ old new. new ≡ old) }
     ensures count { OnOk result (F.read_faults files.new ≡ F.read_faults files.old) }
     ensures other_count { F.write_faults files.new ≡ F.write_faults files.old }
+    ensures calm { F.quiet files.old → HoldsFiles (F.held files.old) (FromConfig name.now) →
+        GoesQuietly (F.quiet files.new) result }
 {
     let config = load_config(alloc, files, name)?;
     load_program(alloc, files, &config)

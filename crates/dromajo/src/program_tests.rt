@@ -400,6 +400,8 @@ impl Files for Ending {
 
     ghost write_faults = { λ _. 0 };
 
+    ghost quiet = { λ _. ⊥ };
+
     fn size(&mut self, _name: &str) -> Result<u64, OutFault> {
         Ok(10)
     }

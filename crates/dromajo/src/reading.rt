@@ -1,8 +1,9 @@
 // Reading a file whole.
 
 ghost use Rattle.std.specs.Prelude.{◌≡◌, ◌≢◌, ◌≤◌, Err, IfErr, IfOk, IfSome, OnOk, length, take};
-ghost use Rattle.outside_io.specs.Causes.{HasCause};
-ghost use Rattle.outside_io.specs.Content.{Told, file_of};
+ghost use Rattle.outside_io.specs.Causes.{HasCause, StaysQuiet};
+ghost use Rattle.outside_io.specs.Content.{IsHeld, Told, file_of};
+ghost use Rattle.dromajo.specs.Quiet.{GoesQuietly};
 ghost use Rattle.dromajo.specs.Reading.{HasAtMost, IsContents, IsUnread};
 
 use crate::status::{Status, Which};
@@ -28,6 +29,7 @@ fn fill<F: Files>(files: &mut F, name: &str, buf: &mut [u8]) -> Result<usize, Ou
     ensures cause { HasCause (F.read_faults files.old) (F.read_faults files.new) result }
     ensures other_count { F.write_faults files.new ≡ F.write_faults files.old }
     ensures never_starved { result ≢ Err OutFault.NoMemory }
+    ensures calm { F.quiet files.old → IsHeld (F.held files.old) name.now → StaysQuiet (F.quiet files.new) result }
 {
     let mut done = 0;
     while done < buf.len() {
@@ -45,6 +47,7 @@ fn fill<F: Files>(files: &mut F, name: &str, buf: &mut [u8]) -> Result<usize, Ou
 
 /// What a file holds, where it has at most `most` bytes: it is asked for its size, and then read until
 /// that size or its end. Nothing is read of a file that is longer.
+#[tactic(auto, using(crate::proofs::Quiets::held_still))]
 pub(crate) fn read_file<F: Files>(
     alloc: Global,
     files: &mut F,
@@ -58,6 +61,7 @@ pub(crate) fn read_file<F: Files>(
     ensures content { Told (F.held files.old) (F.held files.new) (λ old new. new ≡ old) }
     ensures count { OnOk result (F.read_faults files.new ≡ F.read_faults files.old) }
     ensures other_count { F.write_faults files.new ≡ F.write_faults files.old }
+    ensures calm { F.quiet files.old → IsHeld (F.held files.old) name.now → GoesQuietly (F.quiet files.new) result }
 {
     let size = match files.size(name) {
         Ok(size) => size,

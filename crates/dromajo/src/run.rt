@@ -5,6 +5,7 @@ ghost use Rattle.hart_turns.specs.declared.machine.TurnEnd.TheVariants.{Goes};
 ghost use Rattle.dromajo.specs.Causes.{HasRunCause};
 ghost use Rattle.dromajo.specs.Cut.{IsRunCut};
 ghost use Rattle.dromajo.specs.Feeding.{AddsLines, AppendsFront};
+ghost use Rattle.dromajo.specs.Quiet.{HoldsNamed, IsFault};
 ghost use Rattle.dromajo.specs.Run.{end_status};
 ghost use Rattle.dromajo.specs.Run.{run as run_of};
 ghost use Rattle.dromajo.specs.Standing.{IsRun};
@@ -77,6 +78,8 @@ pub(crate) fn run<F: Files, I: Source, O: Sink>(
         (counts (F.read_faults files.old) (F.write_faults files.old) (I.faults input.old) (O.faults out.old))
         (counts (F.read_faults files.new) (F.write_faults files.new) (I.faults input.new) (O.faults out.new)) }
     ensures other_count { F.read_faults files.new ≡ F.read_faults files.old }
+    ensures calm { F.quiet files.old → I.quiet input.old → O.quiet out.old →
+        HoldsNamed (F.held files.old) (option_map text_seen trace.entry) → IsFault result.status → ⊥ }
 {
     let mut feed = Feed::new();
     let mut text = Vec::new(alloc);

@@ -1,13 +1,14 @@
 // The top call: the words, the job, the report.
 
 ghost use Rattle.std.specs.Prelude.{◌≡◌, ◌≤◌, IfSome, IsErr, IsSome, List, None, OnErr, OnOk, ℕ, Some, option_map, []};
-ghost use Rattle.outside_io.specs.Causes.{Rose};
+ghost use Rattle.outside_io.specs.Causes.{Rose, StaysQuiet};
 ghost use Rattle.outside_io.specs.Causes.{HasCause as HasCallCause};
 ghost use Rattle.outside_io.specs.Content.{Told};
 ghost use Rattle.dromajo.specs.CommandLine.{job_of, texts};
 ghost use Rattle.dromajo.specs.CommandLine.{Run as RunJob};
 ghost use Rattle.dromajo.specs.Cut.{MayBeStarted};
 ghost use Rattle.dromajo.specs.Feeding.{AppendsFront, HoldsTrace};
+ghost use Rattle.dromajo.specs.Quiet.{HoldsFiles, HoldsJob, IsFault};
 ghost use Rattle.dromajo.specs.Refusal.{AnswersRefusal, refusal_of};
 ghost use Rattle.dromajo.specs.TopCall.{HasCause, HasJobCause, IsBefore, IsFinished, IsJobResult, IsSettled, IsUsage, JobLeaves, Leaves, NonePassedOver, Reported, Reports, counts, failed_report, job_result, result_of};
 ghost use Rattle.dromajo.specs.Walk.{source_seen, text_seen};
@@ -42,6 +43,7 @@ fn start_trace<F: Files>(files: &mut F, trace: Option<&str>) -> Result<(), OutFa
     ensures cause { HasCallCause (F.write_faults files.old) (F.write_faults files.new) result }
     ensures other_count { F.read_faults files.new ≡ F.read_faults files.old }
     ensures named { IsErr result → IsSome (option_map text_seen trace.entry) }
+    ensures calm { F.quiet files.old → StaysQuiet (F.quiet files.new) result }
 {
     match trace {
         Some(name) => files.start(name),
@@ -80,6 +82,8 @@ fn run_source<F: Files, I: Source, O: Sink>(
     ensures cause { HasJobCause result.status (Some (RunJob (source_seen source.entry) turns (option_map text_seen trace.entry)))
         (counts (F.read_faults files.old) (F.write_faults files.old) (I.faults input.old) (O.faults out.old))
         (counts (F.read_faults files.new) (F.write_faults files.new) (I.faults input.new) (O.faults out.new)) }
+    ensures calm { F.quiet files.old → I.quiet input.old → O.quiet out.old →
+        HoldsFiles (F.held files.old) (source_seen source.entry) → IsFault result.status → ⊥ }
 {
     let start = match load_start(alloc, files, source) {
         Ok(start) => start,
@@ -125,6 +129,8 @@ fn perform<F: Files, I: Source, O: Sink>(
     ensures before { IsBefore result.status result.status }
     ensures nothing { job_of (texts words.now) ≡ None →
         (result.status ≡ Status.Usage) × (files.new ≡ files.old) × (input.new ≡ input.old) × (out.new ≡ out.old) }
+    ensures calm { F.quiet files.old → I.quiet input.old → O.quiet out.old →
+        HoldsJob (F.held files.old) (job_of (texts words.now)) → IsFault result.status → ⊥ }
 {
     let Some(
         Job::Run {
@@ -148,6 +154,7 @@ fn finish<E: Sink>(alloc: Global, ended: Ended, report: &mut E) -> Status
     ensures cause { result ≡ Status.WriteFault Which.Report →
         Rose (E.faults report.old) (E.faults report.new) }
     ensures done { result ≡ Status.Done → E.faults report.new ≡ E.faults report.old }
+    ensures calm { E.quiet report.old → (IsFault ended.status → ⊥) → IsFault result → ⊥ }
 {
     let line = match report_line(alloc, &ended.status, ended.turns, ended.taken) {
         Ok(line) => line,
@@ -216,6 +223,11 @@ pub fn dromajo<F: Files, I: Source, O: Sink, E: Sink>(
     // Words that name no job are said to be none, and then no object was touched but the report.
     ensures usage { job_of (texts words.now.items) ≡ None → IsUsage result
         × (files.new ≡ files.old) × (input.new ≡ input.old) × (out.new ≡ out.old) }
+
+    // Over objects that fail at no call, where every file that the job reads is held, no fault of reading or
+    // writing is answered: nothing beyond what the job names is asked for.
+    ensures complete { F.quiet files.old → I.quiet input.old → O.quiet out.old → E.quiet report.old →
+        HoldsJob (F.held files.old) (job_of (texts words.now.items)) → IsFault result → ⊥ }
 
     // The report has the line of the status before it, which has its causes; and where that status
     // is a fault or want of memory, what the job leaves is that of so many whole turns, and a part of

@@ -3,12 +3,13 @@
 ghost use Rattle.std.specs.Prelude.{◌≡◌, ◌≢◌, ◌≤◌, ◌<◌, ◌+◌, ◌++◌, ℕ, [], List, All, Err, IfErr, IfOk, IsErr, IsFalse, IsSome, None, OnOk, OnErr, option_map, take};
 ghost use Rattle.std.specs.Io.KnownBytes.{Appends};
 ghost use Rattle.outside_io.specs.declared.OutFault.TheVariants.{NoMemory};
-ghost use Rattle.outside_io.specs.Causes.{HasCause};
+ghost use Rattle.outside_io.specs.Causes.{HasCause, StaysQuiet};
 ghost use Rattle.outside_io.specs.Content.{Told};
 ghost use Rattle.commit_log.specs.Spelling.{HasSpelling};
 ghost use Rattle.dromajo.specs.Causes.{HasTurnCause, fault_status};
 ghost use Rattle.dromajo.specs.Cut.{IsTurnCut, ReadNothing};
 ghost use Rattle.dromajo.specs.Feeding.{AddsLines, AppendsFront, IsFed, IsShown, IsTurned};
+ghost use Rattle.dromajo.specs.Quiet.{HoldsNamed, TurnsQuietly};
 ghost use Rattle.dromajo.specs.Run.{trace_lines, turn_on};
 ghost use Rattle.dromajo.specs.TopCall.{counts};
 ghost use Rattle.dromajo.specs.Walk.{text_seen};
@@ -36,6 +37,7 @@ fn make_turn<I: Source>(
     ensures unread { OnErr result (ReadNothing feed.old (I.left input.old) (I.left input.new)) }
     ensures cause { HasCause (I.faults input.old) (I.faults input.new) result }
     ensures never_starved { result ≢ Err NoMemory }
+    ensures calm { I.quiet input.old → StaysQuiet (I.quiet input.new) result }
     ensures later { machine.old.machine.taken ≤ machine.new.machine.taken }
     ensures grows { machine.new.machine.taken ≤ machine.old.machine.taken + 1 }
 {
@@ -55,6 +57,7 @@ fn show<O: Sink>(machine: &Machine, out: &mut O) -> Result<(), OutFault>
     ensures front { AppendsFront (O.written out.old) (O.written out.new) machine.now.console }
     ensures some { OnErr result (machine.now.console ≢ []) }
     ensures cause { HasCause (O.faults out.old) (O.faults out.new) result }
+    ensures calm { O.quiet out.old → StaysQuiet (O.quiet out.new) result }
 {
     if machine.output().is_empty() {
         return Ok(());
@@ -92,6 +95,8 @@ fn log<F: Files>(
     ensures cause { HasCause (F.write_faults files.old) (F.write_faults files.new) result }
     ensures other_count { F.read_faults files.new ≡ F.read_faults files.old }
     ensures named { IsErr result → IsSome (option_map text_seen trace.entry) }
+    ensures calm { F.quiet files.old → HoldsNamed (F.held files.old) (option_map text_seen trace.entry) →
+        StaysQuiet (F.quiet files.new) result }
 {
     let Some(name) = trace else {
         return Ok(());
@@ -116,6 +121,7 @@ fn status_of(fault: OutFault, failed: Status) -> Status
 
 /// One turn of a run: reads the offered byte, makes the turn, writes its console bytes and appends
 /// its lines.
+#[tactic(auto, using(crate::proofs::Quiets::trace_kept))]
 pub(crate) fn run_turn<F: Files, I: Source, O: Sink>(
     machine: &mut Machine,
     feed: &mut Feed,
@@ -149,6 +155,10 @@ pub(crate) fn run_turn<F: Files, I: Source, O: Sink>(
     ensures other_count { F.read_faults files.new ≡ F.read_faults files.old }
     ensures later { machine.old.machine.taken ≤ machine.new.machine.taken }
     ensures grows { machine.new.machine.taken ≤ machine.old.machine.taken + 1 }
+    ensures calm { F.quiet files.old → I.quiet input.old → O.quiet out.old →
+        HoldsNamed (F.held files.old) (option_map text_seen trace.entry) →
+        TurnsQuietly (F.quiet files.new) (I.quiet input.new) (O.quiet out.new)
+        (HoldsNamed (F.held files.new) (option_map text_seen trace.entry)) result }
 {
     let end = match make_turn(machine, feed, input) {
         Ok(end) => end,

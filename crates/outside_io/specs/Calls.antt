@@ -1,5 +1,5 @@
 -- The calls of an object in memory, which are numbered from 1, and the numbers of those that are to fail.
-use Rattle.std.specs.Prelude.{◌≡◌, ℕ, List, [], ◌++◌, Contains}
+use Rattle.std.specs.Prelude.{◌≡◌, ◌<◌, ℕ, All, List, [], ◌++◌, Contains}
 use Rattle.outside_io.specs.declared.calls.Calls.{Calls}
 use Rattle.outside_io.specs.Causes.{raised}
 
@@ -14,6 +14,10 @@ next_number calls = raised calls.made
 -- the next call is to fail
 abbrev pub IsToFail : Calls → Type 0
 IsToFail calls = Contains (listed_numbers calls) (next_number calls)
+
+-- no call still to come is to fail: every number that is listed is below that of the next call
+abbrev pub AreQuiet : Calls → Type 0
+AreQuiet calls = All (λ number. number < next_number calls) (listed_numbers calls)
 
 -- no number is listed, and no call was made
 pub record AreFresh (calls : Calls) : Type 0 where

@@ -27,3 +27,8 @@ abbrev pub CountsFailed : {T : Type 0} → ℕ → ℕ → Result T OutFault →
 CountsFailed before now (Ok x) = now ≡ before
 CountsFailed before now (Err Failed) = now ≡ raised before
 CountsFailed before now (Err NoMemory) = now ≡ before
+
+-- what a call of a quiet object says: it did not fail, and the object is quiet still
+pub record StaysQuiet {T : Type 0} (quiet_now : Type 0) (result : Result T OutFault) : Type 0 where
+  pub unfailed : IsErrOf result Failed → ⊥
+  pub still : quiet_now

@@ -1,9 +1,14 @@
 -- What an object outside holds, where it tells it.
-use Rattle.std.specs.Prelude.{◌≡◌, ◌≢◌, ◌⊎◌, ℕ, ◌-◌, ◌<◌, ◌≤◌, List, [], ◌++◌, length, take, drop, Option, None, Some, unwrap_or, ⊤}
+use Rattle.std.specs.Prelude.{◌≡◌, ◌≢◌, ◌⊎◌, ℕ, ◌-◌, ◌<◌, ◌≤◌, List, [], ◌++◌, length, take, drop, Option, None, Some, IsSome, unwrap_or, ⊤}
 
 -- from a name's bytes to what the file of that name holds, where there is one
 abbrev pub Held : Type 0
 Held = List ℕ → Option (List ℕ)
+
+-- the name is told to be held
+abbrev pub IsHeld : Option Held → List ℕ → Type 0
+IsHeld None name = ⊥
+IsHeld (Some held) name = IsSome (held name)
 
 -- what the named file holds, and nothing where the name is not held
 abbrev pub file_of : Held → List ℕ → List ℕ

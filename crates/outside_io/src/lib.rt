@@ -10,8 +10,8 @@ ghost use Rattle.std.specs.Prelude.{◌≡◌, ◌≤◌, ℕ, List, length, tak
 ghost use Rattle.std.specs.Io.{ReadsAtMost};
 ghost use Rattle.std.specs.Io.KnownBytes.{ReadConsumes, Appends};
 ghost use Rattle.outside_io.specs.declared.OutFault.TheVariants.{Failed, NoMemory};
-ghost use Rattle.outside_io.specs.Causes.{HasCause};
-ghost use Rattle.outside_io.specs.Content.{Held, Told, ReadsFrom, file_of, IsEmptied, MayBeEmptied, GrowsBy, GrowsByPrefix, KeepsOthers};
+ghost use Rattle.outside_io.specs.Causes.{HasCause, StaysQuiet};
+ghost use Rattle.outside_io.specs.Content.{Held, IsHeld, Told, ReadsFrom, file_of, IsEmptied, MayBeEmptied, GrowsBy, GrowsByPrefix, KeepsOthers};
 
 mod adapters;
 mod calls;
@@ -38,6 +38,10 @@ pub trait Source {
     /// How often the source has failed; it stays at 2^64 - 1.
     ghost faults: { Self → ℕ };
 
+    /// Whether the source is known to fail at no call, now and later. One that does not tell is never
+    /// quiet.
+    ghost quiet: { Self → Type 0 };
+
     /// Puts the next bytes into the front of `buf` and answers how many. Zero for a buffer that is
     /// not empty means the end of the input. After a fault nothing was taken. The only error is
     /// `Failed`.
@@ -45,7 +49,8 @@ pub trait Source {
         ensures bound { ReadsAtMost result buf.new }
         ensures bytes { ReadConsumes (left self.old) (left self.new) result buf.new }
         ensures cause { HasCause (faults self.old) (faults self.new) result }
-        ensures never_starved { IsErrOf result NoMemory → ⊥ };
+        ensures never_starved { IsErrOf result NoMemory → ⊥ }
+        ensures calm { quiet self.old → StaysQuiet (quiet self.new) result };
 }
 
 /// A place that bytes are written to, such as standard output.
@@ -56,12 +61,16 @@ pub trait Sink {
     /// How often the sink has failed; it stays at 2^64 - 1.
     ghost faults: { Self → ℕ };
 
+    /// Whether the sink is known to fail at no call, now and later. One that does not tell is never quiet.
+    ghost quiet: { Self → Type 0 };
+
     /// Appends the whole piece. After an error a prefix of the piece was appended. The errors are
     /// `Failed`, and `NoMemory` of a sink that keeps its bytes in memory.
     fn write(&mut self, piece: &[u8]) -> Result<(), OutFault>
         ensures whole { OnOk result (Appends (written self.old) (written self.new) piece.now) }
         ensures prefix { OnErr result ((n : ℕ) × (n ≤ length piece.now) × Appends (written self.old) (written self.new) (take n piece.now)) }
-        ensures cause { HasCause (faults self.old) (faults self.new) result };
+        ensures cause { HasCause (faults self.old) (faults self.new) result }
+        ensures calm { quiet self.old → StaysQuiet (quiet self.new) result };
 }
 
 /// Files by name, such as those of the file system. Reading changes no file, and writing changes no
@@ -77,13 +86,18 @@ pub trait Files {
     /// How often a `start` or an `append` has failed; it stays at 2^64 - 1.
     ghost write_faults: { Self → ℕ };
 
+    /// Whether the files are known to fail at no `start` and at no other call on a name that is held,
+    /// now and later. Files that do not tell are never quiet.
+    ghost quiet: { Self → Type 0 };
+
     /// The length of the named file in bytes. The only error is `Failed`.
     fn size(&mut self, name: &str) -> Result<u64, OutFault>
         ensures bytes { IfOk result (λ n. IfSome (held self.old) (λ files. n ≡ length (file_of files name.now))) }
         ensures content { Told (held self.old) (held self.new) (λ old new. new ≡ old) }
         ensures cause { HasCause (read_faults self.old) (read_faults self.new) result }
         ensures other_count { write_faults self.new ≡ write_faults self.old }
-        ensures never_starved { IsErrOf result NoMemory → ⊥ };
+        ensures never_starved { IsErrOf result NoMemory → ⊥ }
+        ensures calm { quiet self.old → IsHeld (held self.old) name.now → StaysQuiet (quiet self.new) result };
 
     /// Puts bytes of the named file, from place `at` on, into the front of `buf` and answers how
     /// many. Zero for a buffer that is not empty means that the file ends at or before `at`. The
@@ -94,7 +108,8 @@ pub trait Files {
         ensures content { Told (held self.old) (held self.new) (λ old new. new ≡ old) }
         ensures cause { HasCause (read_faults self.old) (read_faults self.new) result }
         ensures other_count { write_faults self.new ≡ write_faults self.old }
-        ensures never_starved { IsErrOf result NoMemory → ⊥ };
+        ensures never_starved { IsErrOf result NoMemory → ⊥ }
+        ensures calm { quiet self.old → IsHeld (held self.old) name.now → StaysQuiet (quiet self.new) result };
 
     /// Makes the named file and empties it. After an error it is as before or empty. The errors are
     /// `Failed`, and `NoMemory` of files that are kept in memory.
@@ -103,7 +118,8 @@ pub trait Files {
         ensures after_error { OnErr result (Told (held self.old) (held self.new) (MayBeEmptied name.now)) }
         ensures others { Told (held self.old) (held self.new) (KeepsOthers name.now) }
         ensures cause { HasCause (write_faults self.old) (write_faults self.new) result }
-        ensures other_count { read_faults self.new ≡ read_faults self.old };
+        ensures other_count { read_faults self.new ≡ read_faults self.old }
+        ensures calm { quiet self.old → StaysQuiet (quiet self.new) result };
 
     /// Adds the whole piece at the end of the named file. After an error a prefix of the piece was
     /// added. Files may make a name that is not held, or fail. The errors are `Failed`, and
@@ -113,7 +129,8 @@ pub trait Files {
         ensures after_error { OnErr result (Told (held self.old) (held self.new) (GrowsByPrefix piece.now name.now)) }
         ensures others { Told (held self.old) (held self.new) (KeepsOthers name.now) }
         ensures cause { HasCause (write_faults self.old) (write_faults self.new) result }
-        ensures other_count { read_faults self.new ≡ read_faults self.old };
+        ensures other_count { read_faults self.new ≡ read_faults self.old }
+        ensures calm { quiet self.old → IsHeld (held self.old) name.now → StaysQuiet (quiet self.new) result };
 }
 
 #[cfg(test)]

@@ -97,13 +97,15 @@ impl MemSource {
 }
 
 impl Source for MemSource {
-    ghost use Rattle.outside_io.specs.Causes.{HasCause, CountsFailed};
+    ghost use Rattle.outside_io.specs.Causes.{HasCause, CountsFailed, StaysQuiet};
     ghost use Rattle.outside_io.specs.Calls.{IsToFail, OneMore};
-    ghost use Rattle.outside_io.specs.Memory.{source_left, source_calls, source_faults};
+    ghost use Rattle.outside_io.specs.Memory.{source_left, source_calls, source_faults, source_quiet};
 
     ghost left = { λ source. Some (source_left source) };
 
     ghost faults = { source_faults };
+
+    ghost quiet = { source_quiet };
 
     /// Fails exactly where the call's number is listed; else it fills `buf` or gives all that is
     /// left.
@@ -116,6 +118,7 @@ impl Source for MemSource {
         ensures fills { IfOk result (λ n. n ≡ min (length buf.new) (length (source_left self.old))) }
         ensures calls { OneMore (source_calls self.old) (source_calls self.new) }
         ensures count { CountsFailed (source_faults self.old) (source_faults self.new) result }
+        ensures calm { source_quiet self.old → StaysQuiet (source_quiet self.new) result }
     {
         self.calls.next(&mut self.faults)?;
         let count = copy_from(buf, &self.bytes, self.at);
@@ -161,13 +164,15 @@ impl MemSink {
 }
 
 impl Sink for MemSink {
-    ghost use Rattle.outside_io.specs.Causes.{HasCause, CountsFailed};
+    ghost use Rattle.outside_io.specs.Causes.{HasCause, CountsFailed, StaysQuiet};
     ghost use Rattle.outside_io.specs.Calls.{IsToFail, OneMore};
-    ghost use Rattle.outside_io.specs.Memory.{sink_bytes, sink_calls, sink_faults};
+    ghost use Rattle.outside_io.specs.Memory.{sink_bytes, sink_calls, sink_faults, sink_quiet};
 
     ghost written = { λ sink. Some (sink_bytes sink) };
 
     ghost faults = { sink_faults };
+
+    ghost quiet = { sink_quiet };
 
     /// Fails exactly where the call's number is listed. After an error, also where there is no
     /// memory for the piece, nothing was appended.
@@ -179,6 +184,7 @@ impl Sink for MemSink {
         ensures nothing { OnErr result (sink_bytes self.new ≡ sink_bytes self.old) }
         ensures calls { OneMore (sink_calls self.old) (sink_calls self.new) }
         ensures count { CountsFailed (sink_faults self.old) (sink_faults self.new) result }
+        ensures calm { sink_quiet self.old → StaysQuiet (sink_quiet self.new) result }
     {
         self.calls.next(&mut self.faults)?;
         match self.bytes.extend_from_slice(piece) {
@@ -255,16 +261,18 @@ impl MemFiles {
 }
 
 impl Files for MemFiles {
-    ghost use Rattle.outside_io.specs.Causes.{HasCause, CountsFailed};
-    ghost use Rattle.outside_io.specs.Content.{ReadsFrom, Told, file_of, IsEmptied, MayBeEmptied, GrowsBy, GrowsByPrefix, KeepsOthers};
+    ghost use Rattle.outside_io.specs.Causes.{HasCause, CountsFailed, StaysQuiet};
+    ghost use Rattle.outside_io.specs.Content.{IsHeld, ReadsFrom, Told, file_of, IsEmptied, MayBeEmptied, GrowsBy, GrowsByPrefix, KeepsOthers};
     ghost use Rattle.outside_io.specs.Calls.{IsToFail, OneMore};
-    ghost use Rattle.outside_io.specs.Memory.{files_held, files_calls, files_read_faults, files_write_faults};
+    ghost use Rattle.outside_io.specs.Memory.{files_held, files_calls, files_read_faults, files_write_faults, files_quiet};
 
     ghost held = { λ files. Some (files_held files) };
 
     ghost read_faults = { files_read_faults };
 
     ghost write_faults = { files_write_faults };
+
+    ghost quiet = { files_quiet };
 
     /// Fails exactly where the call's number is listed, or the name is not held.
     fn size(&mut self, name: &str) -> Result<u64, OutFault>
@@ -275,6 +283,7 @@ impl Files for MemFiles {
         ensures fails { IsErrOf result Failed ↔ (IsToFail (files_calls self.old) ⊎ IsNone (files_held self.old name.now)) }
         ensures calls { OneMore (files_calls self.old) (files_calls self.new) }
         ensures count { CountsFailed (files_read_faults self.old) (files_read_faults self.new) result }
+        ensures calm { files_quiet self.old → IsHeld (Some (files_held self.old)) name.now → StaysQuiet (files_quiet self.new) result }
         ensures other_count { files_write_faults self.new ≡ files_write_faults self.old }
     {
         self.calls.next(&mut self.read_faults)?;
@@ -296,6 +305,7 @@ impl Files for MemFiles {
         ensures fills { IfOk result (λ n. n ≡ min (length buf.new) (length (drop at (file_of (files_held self.old) name.now)))) }
         ensures calls { OneMore (files_calls self.old) (files_calls self.new) }
         ensures count { CountsFailed (files_read_faults self.old) (files_read_faults self.new) result }
+        ensures calm { files_quiet self.old → IsHeld (Some (files_held self.old)) name.now → StaysQuiet (files_quiet self.new) result }
         ensures other_count { files_write_faults self.new ≡ files_write_faults self.old }
     {
         self.calls.next(&mut self.read_faults)?;
@@ -317,6 +327,7 @@ impl Files for MemFiles {
         ensures nothing { OnErr result ((other : List ℕ) → files_held self.new other ≡ files_held self.old other) }
         ensures calls { OneMore (files_calls self.old) (files_calls self.new) }
         ensures count { CountsFailed (files_write_faults self.old) (files_write_faults self.new) result }
+        ensures calm { files_quiet self.old → StaysQuiet (files_quiet self.new) result }
     {
         self.calls.next(&mut self.write_faults)?;
         self.put(name, b"")
@@ -335,6 +346,7 @@ impl Files for MemFiles {
         ensures nothing { OnErr result ((other : List ℕ) → files_held self.new other ≡ files_held self.old other) }
         ensures calls { OneMore (files_calls self.old) (files_calls self.new) }
         ensures count { CountsFailed (files_write_faults self.old) (files_write_faults self.new) result }
+        ensures calm { files_quiet self.old → IsHeld (Some (files_held self.old)) name.now → StaysQuiet (files_quiet self.new) result }
     {
         self.calls.next(&mut self.write_faults)?;
         let Some(content) = self.files.get_mut(name) else {

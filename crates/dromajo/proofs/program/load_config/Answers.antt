@@ -19,6 +19,6 @@ pub returns-clause-refused : goal.returns-clause-refused
 returns-clause-refused g c =
     let told = rw c.in-Bytes.is at c.in_ok-contents.ensures.contents in
     let X : Status → Type 0 = λ (status : Status). IfSome (g.F.Files.held c.args.files.now) (λ held. start_of held (FromConfig c.args.name.now) ≡ Err status) in
-    subst (λ (status : Status). IsRefused status (X status) (g.F.Files.read_faults c.args.files.now) (g.F.Files.read_faults c.read_file.new.files)) (sym c.config_refusal.ensures)
+    subst (λ (status : Status). IsRefused status (X status) (g.F.Files.read_faults c.args.files.now) (g.F.Files.read_faults c.read_file.new.files)) (sym c.config_refusal.ensures.status)
     (config_refused c.in-Err.fault X _ _ c.in_ok-contents.ensures.count
     (λ other. told_map _ _ (g.F.Files.held c.args.files.now) (λ held is. config_faulty held c.args.name.now c.in-Err.fault (ap config_of (sym (c.deref.ensures.value ∙ is.0)) ∙ c.in-Err.ensures.err other)) told))

@@ -3,6 +3,7 @@ use Rattle.std.proofs.Common.{◌≤◌, ◌-◌, ℕ, List, Option, length, ◌
 use Rattle.std.proofs.lemmas.Grind.{common_steps}
 use Rattle.outside_io.specs.Content.{ReadsFrom, file_of}
 use Rattle.dromajo.proofs.Filling.{filled_more}
+use Rattle.dromajo.proofs.Quiets.{held_still}
 use Rattle.dromajo.proofs.Telling.{stays_on, told_before, told_both}
 use Rattle.dromajo.proofs.reading.fill.Goals as goal
 
@@ -20,4 +21,5 @@ loop-done-preserved g c =
       content = stays_on _ _ _ before.content found.content;
       count = found.cause.kept ∙ before.count;
       other_count = found.other_count ∙ before.other_count;
+      quiet = λ quiet held. ((found.calm (before.quiet quiet held).0 (before.quiet quiet held).1).still, held_still (g.F.Files.held c.loop-done.files) (g.F.Files.held c.read_at.new.self) found.content c.args.name.now (before.quiet quiet held).1);
     }

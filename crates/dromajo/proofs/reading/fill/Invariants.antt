@@ -1,5 +1,5 @@
 use Rattle.std.proofs.Common.{◌≡◌, ◌≤◌, ◌-◌, IfSome, length, take}
-use Rattle.outside_io.specs.Content.{file_of}
+use Rattle.outside_io.specs.Content.{IsHeld, file_of}
 use Rattle.dromajo.proofs.Telling.{StaysTold}
 use Rattle.dromajo.proofs.reading.fill.Given as goal
 
@@ -12,6 +12,7 @@ invariant-loop-done g l = record {
   content : StaysTold (g.F.Files.held l.fn.files) (g.F.Files.held l.files);
   count : g.F.Files.read_faults l.files ≡ g.F.Files.read_faults l.fn.files;
   other_count : g.F.Files.write_faults l.files ≡ g.F.Files.write_faults l.fn.files;
+  quiet : g.F.Files.quiet l.fn.files → IsHeld (g.F.Files.held l.fn.files) l.name → g.F.Files.quiet l.files × IsHeld (g.F.Files.held l.files) l.name;
 }
 
 abbrev pub decreases-loop-done : goal.decreases-loop-done

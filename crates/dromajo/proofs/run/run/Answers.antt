@@ -18,6 +18,7 @@ loop-made-init g c = record {
   reads = refl;
   input = refl;
   out = refl;
+  quiet = λ files input out held. (files, input, out, held);
 }
 
 pub loop-made-preserved : goal.loop-made-preserved
@@ -35,6 +36,10 @@ loop-made-preserved g c =
       reads = c.run_turn.ensures.other_count ∙ before.reads;
       input = c.in-Ok.ensures.kept.1 ∙ before.input;
       out = c.in-Ok.ensures.kept.2 ∙ before.out;
+      quiet = λ files input out held.
+          let quiet = before.quiet files input out held in
+          let calm = c.in-Ok.ensures.calm quiet.0 quiet.1 quiet.2 quiet.3 in
+          (calm.files, calm.input, calm.out, calm.held);
     }
 
 pub returns-then-has_ended-clause-ran : goal.returns-then-has_ended-clause-ran
