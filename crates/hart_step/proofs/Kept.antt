@@ -14,7 +14,7 @@ use Rattle.hart_step.specs.Step.{after_store, is_touched, rom_after, unreserved_
 use Rattle.hart_step.proofs.Lists.{after_length, reset_length}
 
 -- each hart of the list has its number
-abbrev Numbered : List Hart → Type 0
+abbrev pub Numbered : List Hart → Type 0
 Numbered harts = (h : ℕ) → h < length harts → (get_or harts h (reset_hart 0 0)).csrs.hart ≡ h
 
 -- ---- harts whose registers stay
@@ -168,7 +168,7 @@ appended (x ∷ xs) y (suc h) d within = elim (appended xs y h d (omega (arith, 
   | inr last ↦ inr (ap suc last.0, last.1)
 ]
 
-numbered_more : (xs : List Hart) (y : Hart) → Numbered xs → y.csrs.hart ≡ length xs → Numbered (xs ++ y ∷ [])
+pub numbered_more : (xs : List Hart) (y : Hart) → Numbered xs → y.csrs.hart ≡ length xs → Numbered (xs ++ y ∷ [])
 numbered_more xs y numbered is = λ h within. elim (appended xs y h (reset_hart 0 0) within) [
   | inl before ↦ ap (λ (z : Hart). z.csrs.hart) before.1 ∙ numbered h before.0
   | inr last ↦ ap (λ (z : Hart). z.csrs.hart) last.1 ∙ is ∙ sym last.0

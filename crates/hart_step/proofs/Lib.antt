@@ -7,3 +7,5 @@ pub mod Causes
 pub mod Numbers
 pub mod Kept
 pub mod Parcels
+pub mod DebugResets
+pub mod Raised

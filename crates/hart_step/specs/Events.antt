@@ -23,6 +23,13 @@ IsEvent (Exception hart mode pc cause tval) = (hart < 8) × (cause < 16)
 IsEvent (Interrupt hart cause) = (hart < 8) × (cause < 16)
 IsEvent (Host v) = Unit {0}
 
+-- the exception that an event shows, by its pc and its cause
+abbrev pub exception_of : Event → Option (ℕ × ℕ)
+exception_of (Exception hart mode pc cause tval) = Some (pc, cause)
+exception_of (Commit hart mode pc insn rd st dv vl) = None
+exception_of (Interrupt hart cause) = None
+exception_of (Host v) = None
+
 -- the same of what an instruction shows
 pub record IsDone (done : Done) : Type 0 where
   pub rd : IsWritten done.rd

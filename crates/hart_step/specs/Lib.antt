@@ -2,6 +2,7 @@ pub mod Answers
 pub mod Allowed
 pub mod Harts
 pub mod Memory
+pub mod DebugReset
 pub mod Effects
 pub mod Step
 pub mod Events

@@ -5,9 +5,11 @@ ghost use Rattle.std.specs.List.{list_any};
 ghost use Rattle.guest_ram.specs.Bytes.{HasPart, with_part};
 ghost use Rattle.byteorder.specs.Endian.{little_bytes};
 ghost use Rattle.hart_step.specs.Answers.{after_access, given_by};
+ghost use Rattle.hart_step.specs.DebugReset.{debug_core};
 ghost use Rattle.hart_step.specs.Events.{IsEvent};
 ghost use Rattle.hart_step.specs.Fit.{IsFit, IsWellFormed};
 ghost use Rattle.hart_step.specs.Harts.{hart_of, is_in_debug, lowest_in_debug, reset_core, reset_hart};
+ghost use Rattle.hart_step.specs.Memory.{most_rom};
 ghost use Rattle.hart_step.specs.Step.{after_store, host_cleared, rom_after, step, stored_by, unreserved, unreserved_hart, without_reservation};
 
 use crate::answers::Answers;
@@ -46,6 +48,10 @@ impl Model for Core {
 impl Core {
     /// All harts at reset over this memory, with the entry as their pc. `harts` is 1 to 8, and
     /// `entry` is even.
+    ///
+    /// # Errors
+    ///
+    /// `NoMemory` where the allocator has no room for the harts.
     #[tactic(auto, using(crate::proofs::Lists::reset_length))]
     pub fn new(alloc: Global, harts: u8, ram: GuestRam, entry: u64) -> Result<Core, NoMemory>
         requires some { 0 < harts }
@@ -65,6 +71,39 @@ impl Core {
         Ok(Core {
             harts: list,
             memory,
+        })
+    }
+
+    /// All harts at reset in debug mode over this memory, where they begin to execute this boot ROM:
+    /// in M mode at its first byte, 0x10000, with the debug registers beside those at reset, every
+    /// register x 0 and no reservation. `harts` is 1 to 8, and the ROM has at most 131,072 bytes.
+    ///
+    /// # Errors
+    ///
+    /// `NoMemory` where the allocator has no room for the harts.
+    #[tactic(auto, using(crate::proofs::DebugResets::debug_length))]
+    pub fn new_debug(
+        alloc: Global,
+        harts: u8,
+        ram: GuestRam,
+        rom: Vec<u8>,
+    ) -> Result<Core, NoMemory>
+        requires some { 0 < harts }
+        requires most { harts ≤ 8 }
+        requires room { length rom.items ≤ most_rom }
+        ensures core { IfOk result (λ core. core ≡ debug_core harts ram rom.items) }
+        ensures count { IfOk result (λ core. length core.harts ≡ harts) }
+    {
+        let mut list = Vec::new(alloc);
+        for h in 0..harts {
+            let hart = Hart::at_debug_reset(h);
+            see_hart(&hart);
+            list.push(hart)?;
+        }
+        let walker = Walker::new(alloc)?;
+        Ok(Core {
+            harts: list,
+            memory: Memory::new(ram, rom, walker),
         })
     }
 

@@ -1,12 +1,14 @@
 // The state of one hart.
 
 ghost use Rattle.std.specs.Prelude.{◌≡◌, ◌<◌, ◌+◌, ◌&&◌, nat_lt, None, slice_index};
+ghost use Rattle.hart_step.specs.DebugReset.{reset_debug_hart};
 ghost use Rattle.hart_step.specs.Harts.{is_in_debug, privilege_of, reset_hart, shown_register, with_register};
 ghost use Rattle.hart_step.specs.Events.{IsWritten};
 ghost use Rattle.hart_step.specs.Step.{without_reservation};
 
 use crate::done::Written;
 use crate::event::Priv;
+use crate::memory::ROM_BASE;
 use csr_file::CsrFile;
 use rv_alu::Mode;
 
@@ -32,6 +34,21 @@ impl Hart {
             x: [0; 32],
             mode: Mode::M,
             csrs: CsrFile::reset(h),
+            reservation: None,
+        }
+    }
+
+    /// Hart number `h` at reset in debug mode: in M mode at the first byte of the boot ROM, with every
+    /// register 0 and no reservation.
+    pub(crate) fn at_debug_reset(h: u8) -> Hart
+        requires { h < 8 }
+        ensures { result ≡ reset_debug_hart h }
+    {
+        Hart {
+            pc: ROM_BASE,
+            x: [0; 32],
+            mode: Mode::M,
+            csrs: CsrFile::reset_debug(h),
             reservation: None,
         }
     }

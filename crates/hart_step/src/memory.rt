@@ -21,7 +21,7 @@ use sv39_walk::{Ctx, Kind, Walker, agrees_kept};
 use trap_rules::{has, mstatus};
 
 /// The physical address of the first byte of the boot ROM.
-const ROM_BASE: u64 = 0x1_0000;
+pub(crate) const ROM_BASE: u64 = 0x1_0000;
 
 /// The RAM, the boot ROM, and the walker of the page tables in RAM.
 ///

@@ -4,3 +4,9 @@ pub mod Turns
 pub mod Quiet
 pub mod Permitted
 pub mod Allowed
+pub mod Rooms
+pub mod BootSteps
+pub mod BootHarts
+pub mod BootLaws
+pub mod BootEnds
+pub mod BootAnswers

@@ -4,7 +4,7 @@ use Rattle.hart_turns.specs.declared.running.Running.{Running}
 use Rattle.hart_turns.specs.Kept.{AfterSteps, KeepsForm, progress_of}
 use Rattle.hart_turns.specs.Turn.{Progress, all_steps, hart_steps, one_step}
 
-same_form : (r : Running) → KeepsForm r r
+pub same_form : (r : Running) → KeepsForm r r
 same_form r = record { harts = refl; devices = refl; ram = refl; room = refl; places = refl }
 
 pub form_on : (a b c : Running) → KeepsForm a b → KeepsForm b c → KeepsForm a c

@@ -8,6 +8,8 @@ use Rattle.trap_rules.specs.Interrupt.{picked}
 use Rattle.board_bus.specs.Board.{BoardState, after_load, live, loaded, sent, stored}
 use Rattle.hart_step.specs.declared.hart.Hart.{Hart}
 use Rattle.hart_step.specs.Answers.{Access, Given, Loads, Stores, Untouched}
+use Rattle.hart_step.specs.Harts.{CoreState, hart_of}
+use Rattle.hart_step.specs.Step.{Answer, step}
 
 -- the interrupt that is taken under the signals which the devices drive
 abbrev pub board_interrupt : BoardState → ℕ → Registers → Mode → Option ℕ
@@ -33,6 +35,10 @@ board_gives b h hart = record {
   volatile = λ number. board_volatile b h number hart.csrs;
   may_win = true;
 }
+
+-- what a step of hart h shows and leaves, under what the board gives it
+abbrev pub board_step : CoreState → BoardState → ℕ → Answer
+board_step core board h = step (board_gives board h (hart_of core h)) core h
 
 -- the board after a step's device access
 abbrev pub board_after : BoardState → Access → BoardState

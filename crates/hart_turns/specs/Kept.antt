@@ -7,6 +7,7 @@ use Rattle.hart_turns.specs.declared.running.Running.{Running}
 use Rattle.sim_config.specs.declared.values.Shape.{Shape}
 use Rattle.hart_turns.specs.Machine.{FitsShape}
 use Rattle.hart_turns.specs.Turn.{Progress}
+use Rattle.hart_turns.specs.Boot.{Booting, most_steps}
 
 -- what stands around the harts after a load from a device register, and after a store to one
 abbrev pub outside_loaded : Outside → ℕ → ℕ → ℕ → Outside
@@ -46,9 +47,19 @@ pub record AfterSteps (before after : Running) (p : Progress) (n : ℕ) : Type 0
   pub console : length after.outside.output.bytes ≤ length before.outside.output.bytes + 256 * n
   pub events : length after.events.items ≡ length before.events.items + n
 
--- the parts of a machine fit its shape, its buffers have room for a turn, and each event is well formed
+-- what is kept of a boot after so many steps, as the definitions see it
+abbrev pub booting_of : Running → ℕ → Booting
+booting_of r steps = record { core = r.core; board = r.outside.board; console = r.outside.output.bytes; steps = steps }
+
+-- there is room for so many more steps of a boot: each sends at most 256 bytes, and the event of one is kept
+pub record HasBootRoom (r : Running) (steps : ℕ) : Type 0 where
+  pub console : length r.outside.output.bytes + 256 * steps + 1 ≤ r.outside.output.room
+  pub events : 2 ≤ r.events.room
+
+-- the parts of a machine fit its shape, its buffers have room for a turn and for a boot, and each event is well formed
 pub record IsMachine (shape : Shape) (r : Running) : Type 0 where
   pub fits : FitsShape shape r.core r.outside.board
   pub console : 256 * (shape.harts * shape.slice) + 1 ≤ r.outside.output.room
+  pub boot : 256 * (shape.harts * most_steps) + 1 ≤ r.outside.output.room
   pub events : shape.harts * shape.slice + 1 ≤ r.events.room
   pub formed : All IsEvent r.events.items

@@ -4,7 +4,9 @@ use Rattle.sim_config.specs.declared.values.Shape.{Shape}
 use Rattle.sim_config.specs.Ranges.{IsShape}
 use Rattle.board_bus.specs.Board.{BoardState, hart_count, reset_board}
 use Rattle.hart_step.specs.declared.event.Event.{Event}
+use Rattle.hart_step.specs.DebugReset.{debug_core}
 use Rattle.hart_step.specs.Harts.{CoreState, lowest_in_debug, reset_core}
+use Rattle.hart_step.specs.Step.{unreserved}
 
 pub record MachineState : Type 0 where
   pub shape : Shape
@@ -12,7 +14,7 @@ pub record MachineState : Type 0 where
   pub board : BoardState
   pub taken : ℕ
 
--- a machine, with the console bytes and the events of its last turn
+-- a machine, with the console bytes and the events of its last turn or boot
 pub record MachineView : Type 0 where
   pub machine : MachineState
   pub console : List ℕ
@@ -26,6 +28,20 @@ reset_machine shape ram entry = record {
   board = reset_board shape.harts;
   taken = 0;
 }
+
+-- a machine at reset in debug mode, with this memory and boot ROM, of which so many input bytes were taken: its harts
+-- begin to execute the ROM, and its devices are at reset
+abbrev pub debug_machine : Shape → ℕ → List ℕ → List ℕ → MachineState
+debug_machine shape taken ram rom = record {
+  shape = shape;
+  core = debug_core shape.harts ram rom;
+  board = reset_board shape.harts;
+  taken = taken;
+}
+
+-- a machine without any reservation
+abbrev pub cleared : MachineState → MachineState
+cleared m = record m { core = unreserved m.core }
 
 -- a machine is running where no hart is in debug mode
 abbrev pub is_running : MachineState → Bool

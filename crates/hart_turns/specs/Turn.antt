@@ -10,11 +10,11 @@ use Rattle.board_bus.specs.declared.window.HostSays.{HostSays}
 use Rattle.board_bus.specs.declared.window.HostSays.TheVariants.{Nothing, End, Send, Bad}
 use Rattle.hart_step.specs.declared.event.Event.{Event}
 use Rattle.hart_step.specs.declared.event.Event.TheVariants.{Host}
-use Rattle.hart_step.specs.Harts.{CoreState, hart_of}
-use Rattle.hart_step.specs.Step.{Answer, host_cleared, step}
+use Rattle.hart_step.specs.Harts.{CoreState}
+use Rattle.hart_step.specs.Step.{Answer, host_cleared}
 use Rattle.hart_turns.specs.declared.machine.TurnEnd.{TurnEnd}
 use Rattle.hart_turns.specs.declared.machine.TurnEnd.TheVariants.{Goes, Ended, BadHost}
-use Rattle.hart_turns.specs.Gives.{board_after, board_gives, sent_by}
+use Rattle.hart_turns.specs.Gives.{board_after, board_step, sent_by}
 use Rattle.hart_turns.specs.Machine.{MachineState}
 
 -- ---- the steps
@@ -37,7 +37,7 @@ after_answer p a = record {
 
 -- one step of hart h
 unfoldable pub one_step : ℕ → Progress → Progress
-one_step h p = after_answer p (step (board_gives p.board h (hart_of p.core h)) p.core h)
+one_step h p = after_answer p (board_step p.core p.board h)
 
 -- n steps of hart h
 unfoldable pub hart_steps : ℕ → ℕ → Progress → Progress

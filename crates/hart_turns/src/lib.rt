@@ -1,7 +1,9 @@
 //! The whole machine, turn by turn: the harts, their memory and their devices. `specs/Turn.antt` defines
-//! a turn, and [`Machine::turn`] is that turn.
+//! a turn, and [`Machine::turn`] is that turn; `specs/Boot.antt` defines how a machine executes a boot ROM,
+//! and [`Machine::boot`] is that boot.
 #![tactic(auto)]
 
+mod booting;
 mod events;
 mod laws;
 mod machine;
@@ -31,5 +33,6 @@ mod tests_timer;
 #[cfg(test)]
 mod tests_window;
 
-pub use laws::board_is_allowed;
+pub use booting::BootFault;
+pub use laws::{board_is_allowed, boots_end_debug, boots_step_lowest};
 pub use machine::{Machine, NoMemory, TurnEnd};

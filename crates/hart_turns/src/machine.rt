@@ -1,14 +1,16 @@
 // The machine and its turns.
 
-ghost use Rattle.std.specs.Prelude.{◌≡◌, ◌%◌, ◌<◌, ◌≤◌, ◌+◌, [], All, IfOk, length};
-ghost use Rattle.board_bus.specs.Board.{ticked};
+ghost use Rattle.std.specs.Prelude.{◌≡◌, ◌%◌, ◌<◌, ◌≤◌, ◌+◌, [], All, IfErr, IfOk, IsFalse, IsTrue, length};
+ghost use Rattle.board_bus.specs.Board.{reset_board, ticked};
 ghost use Rattle.sim_config.specs.Ranges.{IsShape};
 ghost use Rattle.hart_step.specs.Events.{IsEvent};
-ghost use Rattle.hart_step.specs.Step.{unreserved};
+ghost use Rattle.hart_step.specs.Memory.{most_rom};
+ghost use Rattle.hart_turns.specs.Boot.{answer_of, answered, booted, machine_at};
 ghost use Rattle.hart_turns.specs.Fit.{IsFit};
-ghost use Rattle.hart_turns.specs.Machine.{is_running, reset_machine};
+ghost use Rattle.hart_turns.specs.Machine.{cleared, debug_machine, is_running, reset_machine};
 ghost use Rattle.hart_turns.specs.Turn.{taken_after, takes, turned};
 
+use crate::booting::{BootFault, MOST_STEPS};
 use crate::events::EventList;
 use crate::outside::Outside;
 use crate::running::Running;
@@ -37,7 +39,7 @@ pub enum TurnEnd {
 /// A machine of one to eight harts, with its devices.
 ///
 /// Contracts see it as a `MachineView`: the machine, and the console bytes and the events of its last
-/// turn. A turn takes no memory.
+/// turn or boot. Neither takes memory.
 #[derive(Drop)]
 pub struct Machine {
     shape: Shape,
@@ -80,22 +82,58 @@ impl Machine {
         ensures machine { IfOk result (λ m. m.machine ≡ reset_machine shape ram entry) }
         ensures empty { IfOk result (λ m. (m.console ≡ []) × (m.events ≡ [])) }
     {
-        let steps = usize::from(shape.harts) * usize::from(shape.slice);
         let core = Core::new(alloc, shape.harts, ram, entry)?;
-        let output = OutBuf::new(alloc, 256 * steps as u64 + 1)?;
-        let events = EventList::new(alloc, steps + 1)?;
-        let outside = Outside {
-            board: Board::new(shape.harts),
-            output,
+        Machine::of_parts(alloc, shape, core, 0)
+    }
+
+    /// A machine of this shape at reset in debug mode, over memory of the shape's length: its harts
+    /// begin to execute this boot ROM, which has at most 131,072 bytes and stands at 0x10000. So many
+    /// input bytes were taken, at most 1,000,000,000,000.
+    ///
+    /// # Errors
+    ///
+    /// `NoMemory` where the allocator has no room for its parts.
+    pub fn reset_debug(
+        alloc: Global,
+        shape: Shape,
+        ram: GuestRam,
+        rom: Vec<u8>,
+        taken: u64,
+    ) -> Result<Machine, NoMemory>
+        requires shape { IsShape shape }
+        requires length { length ram ≡ shape.ram }
+        requires room { length rom.items ≤ most_rom }
+        requires taken { taken ≤ 1_000_000_000_000 }
+        ensures machine { IfOk result (λ m. m.machine ≡ debug_machine shape taken ram rom.items) }
+        ensures empty { IfOk result (λ m. (m.console ≡ []) × (m.events ≡ [])) }
+    {
+        let core = Core::new_debug(alloc, shape.harts, ram, rom)?;
+        Machine::of_parts(alloc, shape, core, taken)
+    }
+
+    /// A machine of this shape with these harts and with its devices at reset.
+    #[tactic(auto, using(crate::proofs::Rooms::steps_of_turn))]
+    fn of_parts(alloc: Global, shape: Shape, core: Core, taken: u64) -> Result<Machine, NoMemory>
+        requires shape { IsShape shape }
+        requires harts { length core.harts ≡ shape.harts }
+        requires ram { length core.ram ≡ shape.ram }
+        ensures machine { IfOk result (λ m. m.machine ≡ record { shape = shape; core = core; board = reset_board shape.harts; taken = taken }) }
+        ensures empty { IfOk result (λ m. (m.console ≡ []) × (m.events ≡ [])) }
+    {
+        let harts = u64::from(shape.harts);
+        let events = usize::from(shape.harts) * usize::from(shape.slice) + 1;
+        let running = Running {
+            core,
+            outside: Outside {
+                board: Board::new(shape.harts),
+                output: OutBuf::new(alloc, 256 * (harts * u64::from(MOST_STEPS)) + 1)?,
+            },
+            events: EventList::new(alloc, events)?,
         };
         Ok(Machine {
             shape,
-            running: Running {
-                core,
-                outside,
-                events,
-            },
-            taken: 0,
+            running,
+            taken,
         })
     }
 
@@ -156,7 +194,32 @@ impl Machine {
         self.running.outside.board.tick();
     }
 
-    /// The console bytes of the last turn.
+    /// Executes the boot ROM: each hart in debug mode, in order of number, steps until it leaves that
+    /// mode. Answers how many steps were made. What is kept of the last turn gives way to the console
+    /// bytes of these steps, also where the boot is refused, and to no events. No turn passes.
+    ///
+    /// # Errors
+    ///
+    /// `Trap` at the first exception, and `Long` for the first hart that is still in debug mode after
+    /// 1,024 of its steps. The machine is then as the steps made left it, and not running.
+    pub fn boot(&mut self) -> Result<u32, BootFault>
+        ensures answer { result ≡ answer_of (booted self.old.machine) }
+        ensures left { self.new ≡ record {
+          machine = machine_at self.old.machine (booted self.old.machine).left;
+          console = (booted self.old.machine).left.console;
+          events = [];
+        } }
+        ensures running { IfOk result (λ _. IsTrue (is_running self.new.machine)) }
+        ensures held { IfErr result (λ _. IsFalse (is_running self.new.machine)) }
+    {
+        self.running.begin();
+        let mut steps = 0;
+        let fault = self.running.boot(self.shape.harts, &mut steps);
+        self.running.events.clear();
+        answer(steps, fault)
+    }
+
+    /// The console bytes of the last turn or boot.
     pub fn output(&self) -> &[u8]
         ensures { result.now ≡ self.now.console }
     {
@@ -202,11 +265,18 @@ impl Machine {
 
     /// Drops every reservation.
     pub fn clear_reservations(&mut self)
-        ensures { self.new ≡ record self.old {
-          machine =
-              record self.old.machine { core = unreserved self.old.machine.core };
-        } }
+        ensures { self.new ≡ record self.old { machine = cleared self.old.machine } }
     {
         self.running.core.clear_reservations();
+    }
+}
+
+/// What a boot of so many steps answers.
+fn answer(steps: u32, fault: Option<BootFault>) -> Result<u32, BootFault>
+    ensures { result ≡ answered steps fault }
+{
+    match fault {
+        None => Ok(steps),
+        Some(fault) => Err(fault),
     }
 }

@@ -314,7 +314,7 @@ pub(crate) fn reserves(rt: &impl Abort, core: &Core, h: u8, want: Option<u64>, c
 }
 
 /// Takes the steps of the rows, from reset on, and compares each.
-fn replay(rt: &impl Abort, mut core: Core, fixed: &mut Fixed, rows: &[Row]) -> Core {
+pub(crate) fn replay(rt: &impl Abort, mut core: Core, fixed: &mut Fixed, rows: &[Row]) -> Core {
     let mut count = 0u64;
     for &row in rows {
         match held(row.4) {
@@ -390,16 +390,15 @@ pub(crate) fn run_counted(
     want: (u64, u64),
 ) -> Result<(), AllocError> {
     let core = run(rt, alloc, start, rows)?;
+    counted(rt, &core, want, rows.len() as u64);
+    Ok(())
+}
+
+/// Compares the kept `mcycle` and `minstret` of hart 0 after so many steps.
+pub(crate) fn counted(rt: &impl Abort, core: &Core, want: (u64, u64), steps: u64) {
     assert!(rt; 0 < core.harts());
     let counters = kept_counters(core.hart(0).csrs());
-    same(
-        rt,
-        &counters,
-        &want,
-        "cycles and instructions of",
-        rows.len() as u64,
-    );
-    Ok(())
+    same(rt, &counters, &want, "cycles and instructions of", steps);
 }
 
 /// The kept `mcycle` and `minstret` of hart 0.

@@ -18,8 +18,37 @@ fn interrupts_are_whole_steps(rt: HostRuntime) -> Result<(), AllocError> {
         live: 0x880,
         ..PLAIN
     };
-    run_counted(&rt, rt.alloc(), start, &LIVE_INTERRUPTS, (4, 3))
+    run_counted(&rt, rt.alloc(), start, &LIVE_INTERRUPTS, (4, 3))?;
+    run_counted(&rt, rt.alloc(), PLAIN, &EXTERNAL_INTERRUPT, (17, 16))
 }
+
+/// A supervisor external interrupt that software set in mip and that is delegated: machine mode, which set
+/// SIE too, does not take it, and supervisor mode does.
+static EXTERNAL_INTERRUPT: [Row; 17] = [
+    (0, M, 0x8000_0000, 0x2000_0293, Wrote(5, 0x200)), // addi x5,x0,0x200
+    (0, M, 0x8000_0004, 0x3032_9073, Passed), // csrrw x0,mideleg,x5
+    (0, M, 0x8000_0008, 0x3042_9073, Passed), // csrrw x0,mie,x5
+    (0, M, 0x8000_000c, 0x3442_9073, Passed), // csrrw x0,mip,x5
+    (0, M, 0x8000_0010, 0x0000_0317, Wrote(6, 0x8000_0010)), // auipc x6,0
+    (0, M, 0x8000_0014, 0x0403_0413, Wrote(8, 0x8000_0050)), // addi x8,x6,0x40
+    (0, M, 0x8000_0018, 0x1054_1073, Passed), // csrrw x0,stvec,x8
+    (0, M, 0x8000_001c, 0x0243_0313, Wrote(6, 0x8000_0034)), // addi x6,x6,0x24
+    (0, M, 0x8000_0020, 0x3413_1073, Passed), // csrrw x0,mepc,x6
+    (0, M, 0x8000_0024, 0x0000_13b7, Wrote(7, 0x1000)), // lui x7,1
+    (0, M, 0x8000_0028, 0x8023_8393, Wrote(7, 0x802)), // addi x7,x7,-2046
+    (0, M, 0x8000_002c, 0x3003_9073, Passed), // csrrw x0,mstatus,x7
+    (0, M, 0x8000_0030, 0x3020_0073, Passed), // mret
+    (0, S, 0x8000_0034, 0x0000_0000, Interrupted(9)), // an interrupt
+    (
+        0,
+        S,
+        0x8000_0050,
+        0x1420_2573,
+        Wrote(10, 0x8000_0000_0000_0009),
+    ), // csrrs x10,scause,x0
+    (0, S, 0x8000_0054, 0x1410_25f3, Wrote(11, 0x8000_0034)), // csrrs x11,sepc,x0
+    (0, S, 0x8000_0058, 0x1000_2673, Wrote(12, 0x2_0000_0120)), // csrrs x12,sstatus,x0
+];
 
 /// User mode's calls and breakpoints are delegated: medeleg is 0x108. The rest goes to machine mode.
 static DELEGATION: [Row; 59] = [
