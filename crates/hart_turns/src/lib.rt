@@ -15,6 +15,8 @@ mod step_tests;
 #[cfg(test)]
 mod step_tests_atomic;
 #[cfg(test)]
+mod step_tests_debug;
+#[cfg(test)]
 mod step_tests_devices;
 #[cfg(test)]
 mod step_tests_memory;
@@ -26,6 +28,8 @@ mod step_tests_traps;
 mod step_tests_words;
 #[cfg(test)]
 mod tests;
+#[cfg(test)]
+mod tests_boot;
 #[cfg(test)]
 mod tests_reset;
 #[cfg(test)]

@@ -20,7 +20,7 @@ pub(crate) const WINDOW: u64 = 0x8000_1000;
 pub(crate) const SMALL: u64 = 0x1_0000;
 
 // Whether this is the shape of a machine, with the window at `WINDOW` or none.
-fn is_shape(shape: Shape) -> bool
+pub(crate) fn is_shape(shape: Shape) -> bool
     ensures { IsTrue result → IsShape shape }
 {
     let harts = 1 <= shape.harts && shape.harts <= 8;
@@ -35,6 +35,15 @@ fn put_word(ram: &mut GuestRam, at: u64, word: u32) {
     }
 }
 
+// Lays these words from the first byte of memory on.
+pub(crate) fn put_words(ram: &mut GuestRam, words: &[u32]) {
+    let mut at = BASE;
+    for &word in words {
+        put_word(ram, at, word);
+        at = at.wrapping_add(4);
+    }
+}
+
 // A machine of this shape at reset, with these words from the first byte of memory on.
 pub(crate) fn machine_of(
     rt: &impl Abort,
@@ -44,11 +53,7 @@ pub(crate) fn machine_of(
 ) -> Result<Machine, NoMemory> {
     assert!(rt; is_shape(shape));
     let mut ram = GuestRam::new(alloc, shape.ram)?;
-    let mut at = BASE;
-    for &word in words {
-        put_word(&mut ram, at, word);
-        at = at.wrapping_add(4);
-    }
+    put_words(&mut ram, words);
     assert!(rt; ram.len() == shape.ram);
     Machine::reset(alloc, shape, ram, BASE)
 }
