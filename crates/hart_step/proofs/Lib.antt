@@ -9,3 +9,10 @@ pub mod Kept
 pub mod Parcels
 pub mod DebugResets
 pub mod Raised
+pub mod FitValues
+pub mod FitOffsets
+pub mod FitMemory
+pub mod FitHarts
+pub mod FitClasses
+pub mod FitEffects
+pub mod FitSteps

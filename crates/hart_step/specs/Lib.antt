@@ -8,3 +8,4 @@ pub mod Step
 pub mod Events
 pub mod Fit
 pub mod Shown
+pub mod Laws

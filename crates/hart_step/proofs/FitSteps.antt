@@ -1,0 +1,172 @@
+-- What every step keeps, of a hart and of its core, and what is done to a core beside its steps.
+use Rattle.std.proofs.Common.{◌≡◌, ◌⊎◌, inl, inr, ℕ, ◌%◌, ◌<◌, ◌==◌, ◌&&◌, not, Bool, true, false, if◌then◌else◌, List, [], All, length, Option, Some, None, IfSome, refl, sym, subst, ap, ◌∙◌}
+use Rattle.std.specs.Prelude.{Result, Ok, Err, IfOk}
+use Rattle.std.specs.List.{list_any}
+use Rattle.std.proofs.lemmas.List.{length-map}
+use Rattle.std.proofs.lemmas.List.Elements.{All-nil, All-set}
+use Rattle.byteorder.specs.Endian.{little_bytes}
+use Rattle.guest_ram.proofs.PartLemmas.{length-with_part}
+use Rattle.rv_decode.specs.declared.Insn.{Insn}
+use Rattle.trap_rules.specs.declared.Cause.{Cause}
+use Rattle.hart_step.specs.declared.event.Put.{Put}
+use Rattle.hart_step.specs.declared.hart.Hart.{Hart}
+use Rattle.hart_step.specs.Allowed.{IsAllowed}
+use Rattle.hart_step.specs.Answers.{Given}
+use Rattle.hart_step.specs.Effects.{Effect, raises}
+use Rattle.hart_step.specs.Fit.{AreBytes, IsFit, IsWellFormed}
+use Rattle.hart_step.specs.Harts.{CoreState, hart_of, is_in_debug, reset_hart}
+use Rattle.hart_step.specs.Laws.{HostStaysFit, IsListedAccess, StepStaysFit, StepsStayFit, UnreservedStaysFit}
+use Rattle.hart_step.specs.Memory.{Exception, MemoryState, exception}
+use Rattle.hart_step.specs.Shown.{Done}
+use Rattle.hart_step.specs.Step.{Fetched, HartAnswer, after_store, commits, core_after, decoded, fetched, from_decoded, from_fetched, from_interrupt, hart_step, host_cleared, memory_of, parcel, retired, rom_after, step, stored_by, traps, unreserved, unreserved_hart, with_high, with_low}
+use Rattle.hart_step.proofs.FitClasses.{FitEffect, MemoryFits, Stands, raises_fit, same_memory}
+use Rattle.hart_step.proofs.FitEffects.{effect_fits}
+use Rattle.hart_step.proofs.FitHarts.{HartFits, counted_fits, enters_fits, same_hart}
+use Rattle.hart_step.proofs.FitMemory.{stored_bytes}
+use Rattle.hart_step.proofs.FitOffsets.{HasEvenOffset, decoded_even}
+use Rattle.hart_step.proofs.Kept.{kept_lost, kept_step, kept_unreserved}
+use Rattle.hart_step.proofs.Lists.{after_length, lost_fit, unreserved_fit}
+
+-- ---- one hart
+
+record FitAnswer (n : ℕ) (hart : Hart) (memory : MemoryState) (a : HartAnswer) : Type 0 where
+  hart_fits : HartFits hart a.hart
+  memory_fits : MemoryFits memory a.memory
+  access : IsListedAccess n a.access
+
+fits_on : (first second third : Hart) → HartFits first second → HartFits second third → HartFits first third
+fits_on first second third one two = record { formed = two.formed; number = two.number ∙ one.number }
+
+retired_fits : (b : Bool) (wrote : Option ℕ) (hart : Hart) → IsWellFormed hart → HartFits hart (retired b wrote hart)
+retired_fits true wrote hart formed = same_hart hart formed
+retired_fits false wrote hart formed = counted_fits true wrote hart formed
+
+either_hart : (b : Bool) (hart x y : Hart) → HartFits hart x → HartFits hart y → HartFits hart (if b then x else y)
+either_hart true hart x y first second = first
+either_hart false hart x y first second = second
+
+traps_fit : (e : Exception) (hart : Hart) → IsWellFormed hart → HartFits hart (traps e hart)
+traps_fit e hart formed = either_hart (is_in_debug hart) hart hart _ (same_hart hart formed) (enters_fits (Cause.Exception e.cause) e.tval hart formed)
+
+commits_fit : (n h : ℕ) (before : Hart) (memory : MemoryState) (word : ℕ) (e : Effect) → FitEffect n before memory e → (shown : Result Done Exception) → FitAnswer n before memory (commits h before word e shown)
+commits_fit n h before memory word e fits (Ok done) = record {
+  hart_fits = fits_on before e.hart _ fits.hart_fits (retired_fits (is_in_debug before) done.wrote e.hart fits.hart_fits.formed);
+  memory_fits = fits.memory_fits;
+  access = fits.access;
+}
+commits_fit n h before memory word e fits (Err x) = record {
+  hart_fits = fits_on before e.hart _ fits.hart_fits (traps_fit x e.hart fits.hart_fits.formed);
+  memory_fits = fits.memory_fits;
+  access = fits.access;
+}
+
+decoded_fits : (given : Given) (n len word : ℕ) (hart : Hart) (memory : MemoryState) → Stands given len hart memory → (o : Option Insn) → IfSome o HasEvenOffset → FitEffect n hart memory (from_decoded given n len word hart memory o)
+decoded_fits given n len word hart memory s None even = raises_fit given n len hart memory s (exception 2 word)
+decoded_fits given n len word hart memory s (Some insn) even = effect_fits given n len word insn hart memory s even
+
+-- what is fetched has an even length
+abbrev HasEvenLength : Result Fetched Exception → Type 0
+HasEvenLength r = IfOk r (λ f. f.len % 2 ≡ 0)
+
+either_even : (b : Bool) (x y : Result Fetched Exception) → HasEvenLength x → HasEvenLength y → HasEvenLength (if b then x else y)
+either_even true x y first second = first
+either_even false x y first second = second
+
+high_even : (low : ℕ) (r : Result ℕ Exception) → HasEvenLength (with_high low r)
+high_even low (Ok high) = refl
+high_even low (Err e) = tt
+
+low_even : (hart : Hart) (memory : MemoryState) (r : Result ℕ Exception) → HasEvenLength (with_low hart memory r)
+low_even hart memory (Ok low) = either_even (low % 4 == 3) _ (Ok (record { word = low; len = 2 })) (high_even low _) refl
+low_even hart memory (Err e) = tt
+
+fetched_fits : (given : Given) (n h : ℕ) (hart : Hart) (memory : MemoryState) → IsWellFormed hart → AreBytes memory.ram → AreBytes memory.rom → IsAllowed hart given → (r : Result Fetched Exception) → HasEvenLength r → FitAnswer n hart memory (from_fetched given n h hart memory r)
+fetched_fits given n h hart memory formed ram rom allowed (Err e) even =
+    commits_fit n h hart memory 0 (raises e hart memory) (record { hart_fits = same_hart hart formed; memory_fits = same_memory memory ram; access = tt }) (Err e)
+fetched_fits given n h hart memory formed ram rom allowed (Ok f) even =
+    let s : Stands given f.len hart memory = record { formed = formed; ram = ram; rom = rom; allowed = allowed; len_even = even } in
+    let e : Effect = from_decoded given n f.len f.word hart memory (decoded f.word f.len) in
+    commits_fit n h hart memory f.word e (decoded_fits given n f.len f.word hart memory s (decoded f.word f.len) (decoded_even f.word f.len)) e.shown
+
+interrupt_fits : (given : Given) (n h : ℕ) (hart : Hart) (memory : MemoryState) → IsWellFormed hart → AreBytes memory.ram → AreBytes memory.rom → IsAllowed hart given → (o : Option ℕ) → FitAnswer n hart memory (from_interrupt given n h hart memory o)
+interrupt_fits given n h hart memory formed ram rom allowed (Some cause) = record {
+  hart_fits = enters_fits (Cause.Interrupt cause) 0 hart formed;
+  memory_fits = same_memory memory ram;
+  access = tt;
+}
+interrupt_fits given n h hart memory formed ram rom allowed None =
+    fetched_fits given n h hart memory formed ram rom allowed (fetched hart memory) (low_even hart memory (parcel hart memory hart.pc))
+
+hart_fits : (given : Given) (n h : ℕ) (hart : Hart) (memory : MemoryState) → IsWellFormed hart → AreBytes memory.ram → AreBytes memory.rom → IsAllowed hart given → FitAnswer n hart memory (hart_step given n h hart memory)
+unfolding hart_step
+hart_fits given n h hart memory formed ram rom allowed = interrupt_fits given n h hart memory formed ram rom allowed given.interrupt
+
+-- ---- its core
+
+after_fit : (put : Option Put) (harts : List Hart) → All IsWellFormed harts → All IsWellFormed (after_store put harts)
+after_fit None harts fit = fit
+after_fit (Some put) harts fit = lost_fit put.at put.size harts fit
+
+either_rom : (b : Bool) (before after : List ℕ) → after ≡ before → ((if b then [] else after) ≡ before) ⊎ ((if b then [] else after) ≡ [])
+either_rom true before after same = inr refl
+either_rom false before after same = inl same
+
+rom_bytes : (before after : List ℕ) → AreBytes before → (after ≡ before) ⊎ (after ≡ []) → AreBytes after
+rom_bytes before after are (inl same) = subst AreBytes (sym same) are
+rom_bytes before after are (inr none) = subst AreBytes (sym none) (All-nil (λ b. b < 256))
+
+core_fits : (core : CoreState) (h : ℕ) → IsFit core → h < length core.harts → (a : HartAnswer) → FitAnswer (length core.harts) (hart_of core h) (memory_of core) a → StepStaysFit core (core_after core h (hart_of core h) a)
+core_fits core h fit within a fits =
+    let now : CoreState = (core_after core h (hart_of core h) a).core in
+    let formed : All IsWellFormed now.harts = All-set IsWellFormed (after_store (stored_by a.event) core.harts) h a.hart fits.hart_fits.formed (after_fit (stored_by a.event) core.harts fit.kept.harts) in
+    let left : Bool = (is_in_debug (hart_of core h) && not (is_in_debug a.hart)) && not (list_any is_in_debug now.harts) in
+    let rom : (now.rom ≡ core.rom) ⊎ (now.rom ≡ []) = either_rom left core.rom a.memory.rom fits.memory_fits.rom in
+    let rom_is : now.rom ≡ rom_after (hart_of core h) a.hart now.harts core.rom = ap (λ (r : List ℕ). rom_after (hart_of core h) a.hart now.harts r) fits.memory_fits.rom in
+    record {
+      core = record {
+        fit = record {
+          kept = kept_step core now (stored_by a.event) h (hart_of core h) a.hart fit.kept within refl fits.hart_fits.number formed refl rom_is;
+          ram = fits.memory_fits.bytes;
+          rom = rom_bytes core.rom now.rom fit.rom rom;
+        };
+        harts = after_length (stored_by a.event) core.harts h a.hart;
+        ram = fits.memory_fits.long;
+        rom = rom;
+      };
+      access = fits.access;
+    }
+
+pub steps_stay_fit_lem : StepsStayFit
+unfolding step
+steps_stay_fit_lem given core h fit within allowed =
+    core_fits core h fit within _ (hart_fits given (length core.harts) h (hart_of core h) (memory_of core) (fit.kept.harts h (reset_hart 0 0) within) fit.ram fit.rom allowed)
+
+-- ---- beside the steps
+
+pub host_stays_fit : HostStaysFit
+host_stays_fit core at fit =
+    let now : CoreState = host_cleared core at in
+    record {
+      fit = record {
+        kept = kept_lost core now at 8 fit.kept (lost_fit at 8 core.harts fit.kept.harts) refl refl;
+        ram = stored_bytes core.ram at 8 0 fit.ram;
+        rom = fit.rom;
+      };
+      harts = length-map core.harts _;
+      ram = length-with_part core.ram at (little_bytes 8 0);
+      rom = inl refl;
+    }
+
+pub unreserved_stays_fit : UnreservedStaysFit
+unreserved_stays_fit core fit =
+    let now : CoreState = unreserved core in
+    record {
+      fit = record {
+        kept = kept_unreserved core now fit.kept (unreserved_fit core.harts fit.kept.harts) refl refl;
+        ram = fit.ram;
+        rom = fit.rom;
+      };
+      harts = length-map core.harts unreserved_hart;
+      ram = refl;
+      rom = inl refl;
+    }

@@ -1,0 +1,39 @@
+-- What follows from the definitions: every step, a store of the host and lost reservations keep a core well formed.
+use Rattle.std.specs.Prelude.{◌≡◌, ◌^◌, ◌<◌, ◌⊎◌, ℕ, [], IsTrue, length}
+use Rattle.board_bus.specs.Listed.{is_listed}
+use Rattle.hart_step.specs.Allowed.{IsAllowed}
+use Rattle.hart_step.specs.Answers.{Access, Given, Loads, Stores, Untouched}
+use Rattle.hart_step.specs.Fit.{IsFit}
+use Rattle.hart_step.specs.Harts.{CoreState, hart_of}
+use Rattle.hart_step.specs.Step.{Answer, host_cleared, step, unreserved}
+
+-- a device access is of a register that a board of n harts lists, and a value that is stored has as many bytes
+abbrev pub IsListedAccess : ℕ → Access → Type 0
+IsListedAccess n Untouched = Unit {0}
+IsListedAccess n (Loads at size) = IsTrue (is_listed n at size)
+IsListedAccess n (Stores at size value) = IsTrue (is_listed n at size) × (value < 256 ^ size)
+
+-- a core is well formed after a change, with as many harts, as many bytes of RAM, and the same ROM or none
+pub record StaysWellFormed (before after : CoreState) : Type 0 where
+  pub fit : IsFit after
+  pub harts : length after.harts ≡ length before.harts
+  pub ram : length after.ram ≡ length before.ram
+  pub rom : (after.rom ≡ before.rom) ⊎ (after.rom ≡ [])
+
+-- so it is after a step, whose device access is of a register that there is
+pub record StepStaysFit (before : CoreState) (answer : Answer) : Type 0 where
+  pub core : StaysWellFormed before answer.core
+  pub access : IsListedAccess (length before.harts) answer.access
+
+-- every step of a well-formed core that is given what it may be given
+abbrev pub StepsStayFit : Type 0
+StepsStayFit = (given : Given) (core : CoreState) (h : ℕ) →
+    IsFit core → h < length core.harts → IsAllowed (hart_of core h) given → StepStaysFit core (step given core h)
+
+-- a store of the host, wherever it goes
+abbrev pub HostStaysFit : Type 0
+HostStaysFit = (core : CoreState) (at : ℕ) → IsFit core → StaysWellFormed core (host_cleared core at)
+
+-- the loss of every reservation
+abbrev pub UnreservedStaysFit : Type 0
+UnreservedStaysFit = (core : CoreState) → IsFit core → StaysWellFormed core (unreserved core)

@@ -1,0 +1,15 @@
+// Laws of the definitions, each as the contract of a call that does nothing.
+
+ghost use Rattle.hart_step.specs.Laws.{HostStaysFit, StepsStayFit, UnreservedStaysFit};
+
+/// Every step of a well-formed core, where it is given what the manuals allow, leaves a well-formed
+/// core of as many harts and as much RAM, and accesses a device register that there is.
+pub fn steps_stay_fit()
+    ensures { StepsStayFit }
+{}
+
+/// The same of a store of the host, and of a core that loses every reservation.
+pub fn changes_stay_fit()
+    ensures host { HostStaysFit }
+    ensures unreserved { UnreservedStaysFit }
+{}
