@@ -16,3 +16,9 @@ pub mod FitHarts
 pub mod FitClasses
 pub mod FitEffects
 pub mod FitSteps
+pub mod ToldWrites
+pub mod ToldClasses
+pub mod ToldEffects
+pub mod ToldHarts
+pub mod ToldSteps
+pub mod EventKinds

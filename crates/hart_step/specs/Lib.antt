@@ -9,3 +9,4 @@ pub mod Events
 pub mod Fit
 pub mod Shown
 pub mod Laws
+pub mod Told

@@ -1,6 +1,7 @@
 // Laws of the definitions, each as the contract of a call that does nothing.
 
 ghost use Rattle.hart_step.specs.Laws.{HostStaysFit, StepsStayFit, UnreservedStaysFit};
+ghost use Rattle.hart_step.specs.Told.{EffectsFollow, StepsFollow};
 
 /// Every step of a well-formed core, where it is given what the manuals allow, leaves a well-formed
 /// core of as many harts and as much RAM, and accesses a device register that there is.
@@ -12,4 +13,16 @@ pub fn steps_stay_fit()
 pub fn changes_stay_fit()
     ensures host { HostStaysFit }
     ensures unreserved { UnreservedStaysFit }
+{}
+
+/// An instruction that is told what another carrying out of it showed does the same, also on a hart that
+/// has a reservation where the other had none.
+pub fn effects_follow()
+    ensures { EffectsFollow }
+{}
+
+/// A step that is told what another one showed does the same, also on a core whose harts have
+/// reservations where that one's had none.
+pub fn steps_follow()
+    ensures { StepsFollow }
 {}

@@ -1,6 +1,7 @@
 -- What the board gives a step, where the manuals leave a choice, and what a step's device access makes of the board.
 use Rattle.std.specs.Prelude.{ℕ, ◌==◌, ◌||◌, true, bit_and, if◌then◌else◌, Option, List, [], unwrap_or}
 use Rattle.rv_alu.specs.declared.Mode.{Mode}
+use Rattle.rv_alu.specs.Bits.{low_bytes}
 use Rattle.csr_file.specs.declared.registers.Registers.{Registers}
 use Rattle.csr_file.specs.Numbers.{csr_cycle, csr_mcycle, csr_time}
 use Rattle.csr_file.specs.View.{volatile_bits}
@@ -15,17 +16,21 @@ use Rattle.hart_step.specs.Step.{Answer, step}
 abbrev pub board_interrupt : BoardState → ℕ → Registers → Mode → Option ℕ
 board_interrupt b h csrs mode = picked csrs mode (live b h)
 
--- what a device register answers to a load
+-- what a device register answers to a load, in as many bytes as were asked for
 abbrev pub board_device : BoardState → ℕ → ℕ → ℕ
-board_device b at size = unwrap_or (loaded b at size) 0
+board_device b at size = low_bytes size (unwrap_or (loaded b at size) 0)
 
--- what a volatile register reads as: time is the board's timer, cycle and mcycle are the counter that the hart keeps,
--- and of mip and sip the bits that devices drive
-abbrev pub board_volatile : BoardState → ℕ → ℕ → Registers → ℕ
-board_volatile b h number csrs =
+-- the word behind a volatile register: time is the board's timer, cycle and mcycle are the counter that the hart keeps,
+-- and mip and sip have the bits that devices drive
+abbrev pub board_word : BoardState → ℕ → ℕ → Registers → ℕ
+board_word b h number csrs =
     if number == csr_time then b.clint.mtime
     else if (number == csr_cycle) || (number == csr_mcycle) then csrs.mcycle
-    else bit_and (live b h) (volatile_bits number)
+    else live b h
+
+-- what it reads as, within its volatile bits
+abbrev pub board_volatile : BoardState → ℕ → ℕ → Registers → ℕ
+board_volatile b h number csrs = bit_and (board_word b h number csrs) (volatile_bits number)
 
 -- what the board gives hart h; it lets each store-conditional win that may
 abbrev pub board_gives : BoardState → ℕ → Hart → Given

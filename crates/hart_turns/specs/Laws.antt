@@ -1,16 +1,17 @@
 -- What follows from the definitions.
-use Rattle.std.specs.Prelude.{◌≡◌, ◌<◌, ◌≤◌, ℕ, IsFalse, IsTrue, None, Some, length}
+use Rattle.std.specs.Prelude.{◌≡◌, ◌≤◌, ℕ, IsFalse, IsTrue, None, Some, length}
+use Rattle.board_bus.specs.Board.{BoardState}
 use Rattle.hart_step.specs.Allowed.{IsAllowed}
-use Rattle.hart_step.specs.Harts.{hart_of, lowest_in_debug}
+use Rattle.hart_step.specs.Harts.{lowest_in_debug}
+use Rattle.hart_step.specs.declared.hart.Hart.{Hart}
 use Rattle.hart_turns.specs.declared.booting.BootFault.{BootFault}
 use Rattle.hart_turns.specs.Boot.{BootSteps, Booting, booted, machine_at}
-use Rattle.hart_turns.specs.Fit.{IsFit}
 use Rattle.hart_turns.specs.Gives.{board_gives}
 use Rattle.hart_turns.specs.Machine.{MachineState, is_running}
 
--- what the board gives a hart of a well-formed machine is allowed
+-- what the board gives a hart is allowed
 abbrev pub BoardIsAllowed : Type 0
-BoardIsAllowed = (m : MachineState) (h : ℕ) → IsFit m → h < length m.core.harts → IsAllowed (hart_of m.core h) (board_gives m.board h (hart_of m.core h))
+BoardIsAllowed = (board : BoardState) (h : ℕ) (hart : Hart) → IsAllowed hart (board_gives board h hart)
 
 -- each step of a boot is one of the lowest hart in debug mode
 abbrev pub LowestSteps : Type 0

@@ -2,8 +2,7 @@
 
 ghost use Rattle.hart_turns.specs.Laws.{BoardIsAllowed, BootsEnd, LowestSteps};
 
-/// What the board gives a step of a well-formed machine is one of the behaviours that the manuals
-/// allow.
+/// What the board gives a step is one of the behaviours that the manuals allow.
 pub fn board_is_allowed()
     ensures { BoardIsAllowed }
 {}

@@ -4,7 +4,7 @@ ghost use Rattle.std.specs.Prelude.{◌≡◌, ◌<◌};
 ghost use Rattle.csr_file.specs.View.{IsGiven};
 ghost use Rattle.csr_file.specs.declared.registers.Registers.{Registers};
 ghost use Rattle.board_bus.specs.Board.{hart_count};
-ghost use Rattle.hart_turns.specs.Gives.{board_volatile};
+ghost use Rattle.hart_turns.specs.Gives.{board_volatile, board_word};
 
 use crate::registers::mcycle;
 use board_bus::Board;
@@ -79,16 +79,24 @@ impl Answers for Outside {
 }
 
 /// What a volatile register reads as.
-#[tactic(auto, unfolding(csr_file::specs::View::volatile_bits))]
+#[tactic(auto, using(csr_file::proofs::LegalLaws::and_twice))]
 #[inline(never)]
 fn volatile_word(board: &Board, hart: u8, num: u16, csrs: &CsrFile) -> u64
     requires { hart < hart_count board.now }
-    ensures word { result ≡ board_volatile board.now hart num csrs.now }
+    ensures value { result ≡ board_volatile board.now hart num csrs.now }
     ensures within { IsGiven num result }
+{
+    word_behind(board, hart, num, csrs) & CsrFile::volatile_mask(num)
+}
+
+/// The word behind a volatile register.
+fn word_behind(board: &Board, hart: u8, num: u16, csrs: &CsrFile) -> u64
+    requires { hart < hart_count board.now }
+    ensures { result ≡ board_word board.now hart num csrs.now }
 {
     match num {
         TIME => board.time(),
         CYCLE | MCYCLE => mcycle(csrs),
-        _ => board.live(hart) & CsrFile::volatile_mask(num),
+        _ => board.live(hart),
     }
 }
