@@ -1,3 +1,4 @@
 pub mod Signals
 pub mod Accesses
 pub mod Loaded
+pub mod Fits

@@ -1,3 +1,4 @@
 pub mod Best
 pub mod Within
 pub mod Loaded
+pub mod Fits
