@@ -1,12 +1,17 @@
--- Names that are held stay held, and the trace's file is held once it was started.
-use Rattle.std.proofs.Common.{◌≡◌, ◌++◌, ℕ, List, [], Option, Some, None, Ok, IsSome, refl, subst, sym, ap}
+-- Over quiet objects: names that are held stay held, and the trace's file is held once it was started; and where no
+-- fault ended the job, no count rose.
+use Rattle.std.proofs.Common.{◌≡◌, ◌++◌, ℕ, List, [], Option, Some, None, Ok, IsSome, refl, subst, sym, ap, arith}
+use Rattle.outside_io.specs.Causes.{CanRise, HasNotRisen}
 use Rattle.outside_io.specs.Content.{Held, IsHeld, Told, file_of}
 use Rattle.sim_config.specs.Reading.{config_of}
 use Rattle.sim_config.specs.declared.values.Config.{Config}
 use Rattle.std.specs.Prelude.{IfSome}
-use Rattle.dromajo.specs.CommandLine.{FromConfig}
+use Rattle.dromajo.specs.declared.status.Status.{Status}
+use Rattle.dromajo.specs.declared.status.Status.TheVariants.{Done, Usage, BadConfig, BadElf, ReadFault, WriteFault, NoMemory, GuestEnded, BadHostWord}
+use Rattle.dromajo.specs.CommandLine.{FromConfig, Job}
 use Rattle.dromajo.specs.Feeding.{AddsLines, HoldsTrace}
-use Rattle.dromajo.specs.Quiet.{HoldsFiles, HoldsNamed}
+use Rattle.dromajo.specs.Quiet.{HoldsFiles, HoldsNamed, IsFault}
+use Rattle.dromajo.specs.TopCall.{Counts, HasJobCause, NonePassedOver}
 
 pub held_still : (before now : Option Held) → Told before now (λ old new. new ≡ old) → (name : List ℕ) → IsHeld before name → IsHeld now name
 held_still (Some old) (Some new) same name held = subst (λ (files : Held). IsSome (files name)) (sym same) held
@@ -38,3 +43,19 @@ trace_kept None lines before now told held = tt
 trace_kept (Some path) lines (Some old) (Some new) told held = added path lines old new (old path) refl held told
 trace_kept (Some path) lines (Some old) None told held = told
 trace_kept (Some path) lines None now told held = absurd held
+
+-- a job that no fault ended passed none over
+pub none_passed : (status : Status) (job : Option Job) (before now : Counts) → (IsFault status → ⊥) → HasJobCause status job before now → NonePassedOver before now
+none_passed Done job before now unfailed cause = cause
+none_passed Usage job before now unfailed cause = cause.1
+none_passed (BadConfig fault) job before now unfailed cause = cause.1
+none_passed (BadElf fault) job before now unfailed cause = cause
+none_passed (GuestEnded code turn) job before now unfailed cause = cause
+none_passed (BadHostWord word turn) job before now unfailed cause = cause
+none_passed NoMemory job before now unfailed cause = cause
+none_passed (ReadFault which) job before now unfailed cause = absurd (unfailed tt)
+none_passed (WriteFault which) job before now unfailed cause = absurd (unfailed tt)
+
+-- a count that is as before, and could rise, did not
+pub not_risen : (before now : ℕ) → now ≡ before → CanRise before → HasNotRisen before now
+not_risen before now same below = record { same = same; not_risen = λ rose. omega arith; }

@@ -1,11 +1,13 @@
 -- Objects that are known to fail at no call, and what a job over them does not end with.
 use Rattle.std.specs.Prelude.{◌≡◌, ℕ, List, Option, Some, None, IsSome, Result, Ok, IfErr, OnOk, ⊤}
+use Rattle.outside_io.specs.Causes.{HasNotRisen}
 use Rattle.outside_io.specs.Content.{Held, IsHeld, file_of}
 use Rattle.sim_config.specs.Reading.{config_of}
 use Rattle.sim_config.specs.declared.values.Config.{Config}
 use Rattle.dromajo.specs.declared.status.Status.{Status}
 use Rattle.dromajo.specs.declared.status.Status.TheVariants.{Done, Usage, BadConfig, BadElf, ReadFault, WriteFault, NoMemory, GuestEnded, BadHostWord}
 use Rattle.dromajo.specs.CommandLine.{FromConfig, FromImage, Job, Run, Source}
+use Rattle.dromajo.specs.TopCall.{Counts}
 
 -- a fault of reading or writing
 abbrev pub IsFault : Status → Type 0
@@ -51,3 +53,11 @@ pub record TurnsQuietly {T : Type 0} (files_now input_now out_now held_now : Typ
   pub input : OnOk result input_now
   pub out : OnOk result out_now
   pub held : OnOk result held_now
+
+-- no count of faults rose: of reading files, of writing them, of the input, the console and the report
+pub record NoneRose (before now : Counts) (report_before report_now : ℕ) : Type 0 where
+  pub files : HasNotRisen before.files now.files
+  pub writes : HasNotRisen before.writes now.writes
+  pub input : HasNotRisen before.input now.input
+  pub out : HasNotRisen before.out now.out
+  pub report : HasNotRisen report_before report_now

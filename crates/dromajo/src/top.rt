@@ -8,7 +8,7 @@ ghost use Rattle.dromajo.specs.CommandLine.{job_of, texts};
 ghost use Rattle.dromajo.specs.CommandLine.{Run as RunJob};
 ghost use Rattle.dromajo.specs.Cut.{MayBeStarted};
 ghost use Rattle.dromajo.specs.Feeding.{AppendsFront, HoldsTrace};
-ghost use Rattle.dromajo.specs.Quiet.{HoldsFiles, HoldsJob, IsFault};
+ghost use Rattle.dromajo.specs.Quiet.{HoldsFiles, HoldsJob, IsFault, NoneRose};
 ghost use Rattle.dromajo.specs.Refusal.{AnswersRefusal, refusal_of};
 ghost use Rattle.dromajo.specs.TopCall.{HasCause, HasJobCause, IsBefore, IsFinished, IsJobResult, IsSettled, IsUsage, JobLeaves, Leaves, NonePassedOver, Reported, Reports, counts, failed_report, job_result, result_of};
 ghost use Rattle.dromajo.specs.Walk.{source_seen, text_seen};
@@ -101,6 +101,7 @@ fn run_source<F: Files, I: Source, O: Sink>(
 }
 
 /// Does the job that the words name.
+#[tactic(auto, using(crate::proofs::Quiets::none_passed))]
 fn perform<F: Files, I: Source, O: Sink>(
     alloc: Global,
     words: &[String],
@@ -131,6 +132,10 @@ fn perform<F: Files, I: Source, O: Sink>(
         (result.status ≡ Status.Usage) × (files.new ≡ files.old) × (input.new ≡ input.old) × (out.new ≡ out.old) }
     ensures calm { F.quiet files.old → I.quiet input.old → O.quiet out.old →
         HoldsJob (F.held files.old) (job_of (texts words.now)) → IsFault result.status → ⊥ }
+    ensures kept { F.quiet files.old → I.quiet input.old → O.quiet out.old →
+        HoldsJob (F.held files.old) (job_of (texts words.now)) → NonePassedOver
+        (counts (F.read_faults files.old) (F.write_faults files.old) (I.faults input.old) (O.faults out.old))
+        (counts (F.read_faults files.new) (F.write_faults files.new) (I.faults input.new) (O.faults out.new)) }
 {
     let Some(
         Job::Run {
@@ -155,6 +160,7 @@ fn finish<E: Sink>(alloc: Global, ended: Ended, report: &mut E) -> Status
         Rose (E.faults report.old) (E.faults report.new) }
     ensures done { result ≡ Status.Done → E.faults report.new ≡ E.faults report.old }
     ensures calm { E.quiet report.old → (IsFault ended.status → ⊥) → IsFault result → ⊥ }
+    ensures kept { E.quiet report.old → E.faults report.new ≡ E.faults report.old }
 {
     let line = match report_line(alloc, &ended.status, ended.turns, ended.taken) {
         Ok(line) => line,
@@ -225,9 +231,14 @@ pub fn dromajo<F: Files, I: Source, O: Sink, E: Sink>(
         × (files.new ≡ files.old) × (input.new ≡ input.old) × (out.new ≡ out.old) }
 
     // Over objects that fail at no call, where every file that the job reads is held, no fault of reading or
-    // writing is answered: nothing beyond what the job names is asked for.
+    // writing is answered, and whatever the status no count rose: nothing fails that the job does not ask for.
     ensures complete { F.quiet files.old → I.quiet input.old → O.quiet out.old → E.quiet report.old →
         HoldsJob (F.held files.old) (job_of (texts words.now.items)) → IsFault result → ⊥ }
+    ensures no_count_rises { F.quiet files.old → I.quiet input.old → O.quiet out.old → E.quiet report.old →
+        HoldsJob (F.held files.old) (job_of (texts words.now.items)) → NoneRose
+        (counts (F.read_faults files.old) (F.write_faults files.old) (I.faults input.old) (O.faults out.old))
+        (counts (F.read_faults files.new) (F.write_faults files.new) (I.faults input.new) (O.faults out.new))
+        (E.faults report.old) (E.faults report.new) }
 
     // The report has the line of the status before it, which has its causes; and where that status
     // is a fault or want of memory, what the job leaves is that of so many whole turns, and a part of

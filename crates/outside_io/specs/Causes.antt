@@ -1,5 +1,5 @@
 -- When a call of the outside may answer a fault: by the object's count of faults, before and after.
-use Rattle.std.specs.Prelude.{◌≡◌, ℕ, ◌+◌, ◌-◌, ◌^◌, ◌≤◌, min, Result, Ok, Err, OnOk, IsErrOf}
+use Rattle.std.specs.Prelude.{◌≡◌, ℕ, ◌+◌, ◌-◌, ◌^◌, ◌<◌, ◌≤◌, min, Result, Ok, Err, OnOk, IsErrOf}
 use Rattle.outside_io.specs.declared.OutFault.{OutFault}
 use Rattle.outside_io.specs.declared.OutFault.TheVariants.{Failed, NoMemory}
 
@@ -10,6 +10,15 @@ raised count = min (count + 1) (2 ^ 64 - 1)
 -- the count rose, or stands at its last value
 abbrev pub Rose : ℕ → ℕ → Type 0
 Rose before now = min (before + 1) (2 ^ 64 - 1) ≤ now
+
+-- a count of faults can still rise: it stands below its last value
+abbrev pub CanRise : ℕ → Type 0
+CanRise count = count < 2 ^ 64 - 1
+
+-- the count is as before and below its last value, so it did not rise
+pub record HasNotRisen (before now : ℕ) : Type 0 where
+  pub same : now ≡ before
+  pub not_risen : Rose before now → ⊥
 
 -- what a call's answer says of its own count of faults
 pub record HasCause {T : Type 0} (before now : ℕ) (result : Result T OutFault) : Type 0 where

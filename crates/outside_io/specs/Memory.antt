@@ -1,8 +1,9 @@
 -- What an object in memory holds: its bytes or files, its calls and its counts of faults.
-use Rattle.std.specs.Prelude.{ℕ, ◌-◌, ◌^◌, ◌<◌, List, drop}
+use Rattle.std.specs.Prelude.{ℕ, List, drop}
 use Rattle.std.specs.Option.{option_map}
 use Rattle.std.specs.BTreeMap.{get_by_text}
 use Rattle.outside_io.specs.Calls.{AreQuiet}
+use Rattle.outside_io.specs.Causes.{CanRise}
 use Rattle.outside_io.specs.Content.{Held}
 use Rattle.outside_io.specs.declared.calls.Calls.{Calls}
 use Rattle.outside_io.specs.declared.memory.MemSource.{MemSource}
@@ -48,10 +49,6 @@ files_read_faults files = files.read_faults
 -- their count of writing faults
 abbrev pub files_write_faults : MemFiles → ℕ
 files_write_faults files = files.write_faults
-
--- a count of faults can still rise
-abbrev pub CanRise : ℕ → Type 0
-CanRise count = count < 2 ^ 64 - 1
 
 -- which objects are quiet: no call still to come is to fail, and no count stands at its end
 abbrev pub source_quiet : MemSource → Type 0

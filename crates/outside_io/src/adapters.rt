@@ -66,6 +66,8 @@ impl<R: Read + Drop> Source for StdSource<R> {
 
     ghost quiet = { λ _. ⊥ };
 
+    ghost can_rise = { λ _ quiet. absurd quiet };
+
     /// Each error of the reader is a fault, but that of a signal, after which it reads again.
     fn read(&mut self, buf: &mut [u8]) -> Result<usize, OutFault>
         ensures bound { ReadsAtMost result buf.new }
@@ -97,6 +99,8 @@ impl<W: Write + Drop> Sink for StdSink<W> {
     ghost faults = { std_sink_faults };
 
     ghost quiet = { λ _. ⊥ };
+
+    ghost can_rise = { λ _ quiet. absurd quiet };
 
     /// Each error of the writer is a fault, but that of a signal, after which it writes on. A write
     /// that takes nothing of what is left is a fault too.
@@ -214,6 +218,8 @@ impl<R: FileAccess + AllocGlobal + Drop> Files for DirFiles<R> {
     ghost write_faults = { dir_files_write_faults };
 
     ghost quiet = { λ _. ⊥ };
+
+    ghost can_rise = { λ _ quiet. absurd quiet };
 
     /// The length that the system gives for the file. Each error of the system is a fault.
     fn size(&mut self, name: &str) -> Result<u64, OutFault>

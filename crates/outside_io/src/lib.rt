@@ -2,15 +2,17 @@
 //!
 //! Each trait has a meaning that may be told or not (the bytes that are left, the bytes written,
 //! what each file holds) and a count of faults. A call answers `Failed` only where its count rose,
-//! so code that is generic over a trait cannot make up a fault. The objects in memory tell all;
-//! the adapters over the standard library tell what the standard library tells of them.
+//! so code that is generic over a trait cannot make up a fault. An object may also say that it is
+//! quiet: it is known to fail at no call, and its counts stand below their last value, so that no
+//! count of a quiet object is said to have risen. The objects in memory tell all; the adapters over
+//! the standard library tell what the standard library tells of them, and are never quiet.
 #![tactic(auto)]
 
 ghost use Rattle.std.specs.Prelude.{◌≡◌, ◌≤◌, ℕ, List, length, take, Option, IfOk, IfSome, OnOk, OnErr, IsErrOf};
 ghost use Rattle.std.specs.Io.{ReadsAtMost};
 ghost use Rattle.std.specs.Io.KnownBytes.{ReadConsumes, Appends};
 ghost use Rattle.outside_io.specs.declared.OutFault.TheVariants.{Failed, NoMemory};
-ghost use Rattle.outside_io.specs.Causes.{HasCause, StaysQuiet};
+ghost use Rattle.outside_io.specs.Causes.{CanRise, HasCause, StaysQuiet};
 ghost use Rattle.outside_io.specs.Content.{Held, IsHeld, Told, ReadsFrom, file_of, IsEmptied, MayBeEmptied, GrowsBy, GrowsByPrefix, KeepsOthers};
 
 mod adapters;
@@ -38,8 +40,8 @@ pub trait Source {
     /// How often the source has failed; it stays at 2^64 - 1.
     ghost faults: { Self → ℕ };
 
-    /// Whether the source is known to fail at no call, now and later. One that does not tell is never
-    /// quiet.
+    /// Whether the source is known to fail at no call, now and later, and its count stands below its
+    /// last value (`can_rise`). One that does not tell is never quiet.
     ghost quiet: { Self → Type 0 };
 
     /// Puts the next bytes into the front of `buf` and answers how many. Zero for a buffer that is
@@ -51,6 +53,9 @@ pub trait Source {
         ensures cause { HasCause (faults self.old) (faults self.new) result }
         ensures never_starved { IsErrOf result NoMemory → ⊥ }
         ensures calm { quiet self.old → StaysQuiet (quiet self.new) result };
+
+    /// The count of a quiet source can still rise.
+    ghost can_rise: { (source : Self) → quiet source → CanRise (faults source) };
 }
 
 /// A place that bytes are written to, such as standard output.
@@ -61,7 +66,8 @@ pub trait Sink {
     /// How often the sink has failed; it stays at 2^64 - 1.
     ghost faults: { Self → ℕ };
 
-    /// Whether the sink is known to fail at no call, now and later. One that does not tell is never quiet.
+    /// Whether the sink is known to fail at no call, now and later, and its count stands below its
+    /// last value (`can_rise`). One that does not tell is never quiet.
     ghost quiet: { Self → Type 0 };
 
     /// Appends the whole piece. After an error a prefix of the piece was appended. The errors are
@@ -71,6 +77,9 @@ pub trait Sink {
         ensures prefix { OnErr result ((n : ℕ) × (n ≤ length piece.now) × Appends (written self.old) (written self.new) (take n piece.now)) }
         ensures cause { HasCause (faults self.old) (faults self.new) result }
         ensures calm { quiet self.old → StaysQuiet (quiet self.new) result };
+
+    /// The count of a quiet sink can still rise.
+    ghost can_rise: { (sink : Self) → quiet sink → CanRise (faults sink) };
 }
 
 /// Files by name, such as those of the file system. Reading changes no file, and writing changes no
@@ -87,7 +96,8 @@ pub trait Files {
     ghost write_faults: { Self → ℕ };
 
     /// Whether the files are known to fail at no `start` and at no other call on a name that is held,
-    /// now and later. Files that do not tell are never quiet.
+    /// now and later, and their counts stand below their last value (`can_rise`). Files that do not
+    /// tell are never quiet.
     ghost quiet: { Self → Type 0 };
 
     /// The length of the named file in bytes. The only error is `Failed`.
@@ -131,6 +141,9 @@ pub trait Files {
         ensures cause { HasCause (write_faults self.old) (write_faults self.new) result }
         ensures other_count { read_faults self.new ≡ read_faults self.old }
         ensures calm { quiet self.old → IsHeld (held self.old) name.now → StaysQuiet (quiet self.new) result };
+
+    /// The counts of quiet files can still rise.
+    ghost can_rise: { (files : Self) → quiet files → CanRise (read_faults files) × CanRise (write_faults files) };
 }
 
 #[cfg(test)]

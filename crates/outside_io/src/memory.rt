@@ -54,13 +54,14 @@ fn copy_from(buf: &mut [u8], bytes: &[u8], at: usize) -> usize
 
 impl MemSource {
     ghost use Rattle.outside_io.specs.Calls.{AreFresh, Lists};
-    ghost use Rattle.outside_io.specs.Memory.{source_left, source_calls, source_faults};
+    ghost use Rattle.outside_io.specs.Memory.{source_left, source_calls, source_faults, source_quiet};
 
     /// A source with no bytes, and no call that is to fail. It takes no memory.
     pub fn new(alloc: Global) -> Self
         ensures empty { source_left result ≡ [] }
         ensures calls { AreFresh (source_calls result) }
         ensures count { source_faults result ≡ 0 }
+        ensures quiet { source_quiet result }
     {
         MemSource {
             bytes: Vec::new(alloc),
@@ -107,6 +108,8 @@ impl Source for MemSource {
 
     ghost quiet = { source_quiet };
 
+    ghost can_rise = { λ source quiet. quiet.1 };
+
     /// Fails exactly where the call's number is listed; else it fills `buf` or gives all that is
     /// left.
     fn read(&mut self, buf: &mut [u8]) -> Result<usize, OutFault>
@@ -129,13 +132,14 @@ impl Source for MemSource {
 
 impl MemSink {
     ghost use Rattle.outside_io.specs.Calls.{AreFresh, Lists};
-    ghost use Rattle.outside_io.specs.Memory.{sink_bytes, sink_calls, sink_faults};
+    ghost use Rattle.outside_io.specs.Memory.{sink_bytes, sink_calls, sink_faults, sink_quiet};
 
     /// A sink with no bytes, and no call that is to fail. It takes no memory.
     pub fn new(alloc: Global) -> Self
         ensures empty { sink_bytes result ≡ [] }
         ensures calls { AreFresh (sink_calls result) }
         ensures count { sink_faults result ≡ 0 }
+        ensures quiet { sink_quiet result }
     {
         MemSink {
             bytes: Vec::new(alloc),
@@ -174,6 +178,8 @@ impl Sink for MemSink {
 
     ghost quiet = { sink_quiet };
 
+    ghost can_rise = { λ sink quiet. quiet.1 };
+
     /// Fails exactly where the call's number is listed. After an error, also where there is no
     /// memory for the piece, nothing was appended.
     fn write(&mut self, piece: &[u8]) -> Result<(), OutFault>
@@ -196,7 +202,7 @@ impl Sink for MemSink {
 
 impl MemFiles {
     ghost use Rattle.outside_io.specs.Calls.{AreFresh, Lists};
-    ghost use Rattle.outside_io.specs.Memory.{files_held, files_calls, files_read_faults, files_write_faults};
+    ghost use Rattle.outside_io.specs.Memory.{files_held, files_calls, files_read_faults, files_write_faults, files_quiet};
 
     /// No files, and no call that is to fail. It takes no memory.
     pub fn new(alloc: Global) -> Self
@@ -204,6 +210,7 @@ impl MemFiles {
         ensures calls { AreFresh (files_calls result) }
         ensures read_count { files_read_faults result ≡ 0 }
         ensures write_count { files_write_faults result ≡ 0 }
+        ensures quiet { files_quiet result }
     {
         MemFiles {
             alloc,
@@ -273,6 +280,8 @@ impl Files for MemFiles {
     ghost write_faults = { files_write_faults };
 
     ghost quiet = { files_quiet };
+
+    ghost can_rise = { λ files quiet. (quiet.1, quiet.2) };
 
     /// Fails exactly where the call's number is listed, or the name is not held.
     fn size(&mut self, name: &str) -> Result<u64, OutFault>
