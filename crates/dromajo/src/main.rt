@@ -32,6 +32,8 @@ use outside_io::{DirFiles, StdSink, StdSource};
 pub use status::{Status, Which};
 use std::alloc::AllocError;
 use std::env;
+use std::fs;
+use std::fs::File;
 use std::io::ErrorKind;
 use std::process::ExitCode;
 pub use top::dromajo;
@@ -51,7 +53,22 @@ fn command_line(rt: &HostRuntime) -> Result<Vec<String>, AllocError> {
     Ok(words)
 }
 
+/// Folders in the places of standard streams that are closed, for as long as they are held.
+///
+/// The system gives a file that is opened the lowest number that is free, and the standard streams are
+/// those of numbers 0 to 2. So where one was closed when the program started, a file of the job would
+/// be taken for it, and get the report or the console's bytes. A folder that is open to be read gives
+/// neither a read nor a write, so in its place the stream fails as it should. What goes to a higher
+/// number harms nothing. Where the opening fails, it is left: with no number free no file of the job
+/// can be opened either, and where the root folder may not be read, it is not known whether a stream
+/// is closed, so a fault that is answered might be made up.
+fn places_of_streams(rt: &HostRuntime) -> [Option<File>; 3] {
+    let root = || fs::open(rt, "/").ok();
+    [root(), root(), root()]
+}
+
 fn main(rt: HostRuntime) -> ExitCode {
+    let _places = places_of_streams(&rt);
     let Ok(words) = command_line(&rt) else {
         return Status::NoMemory.exit_code();
     };
