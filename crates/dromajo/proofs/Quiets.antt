@@ -58,4 +58,4 @@ none_passed (WriteFault which) job before now unfailed cause = absurd (unfailed 
 
 -- a count that is as before, and could rise, did not
 pub not_risen : (before now : ℕ) → now ≡ before → CanRise before → HasNotRisen before now
-not_risen before now same below = record { same = same; not_risen = λ rose. omega arith; }
+not_risen before now same below = record { same = same; not_risen = λ rose. omega arith }

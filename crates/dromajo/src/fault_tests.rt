@@ -3,7 +3,8 @@
 // of them is reckoned by hand.
 
 use crate::test_support::{
-    Before, Outside, Row, expect_call, expect_code, expect_file, expect_left, expect_written,
+    Before, Outside, Row, expect_call, expect_code, expect_file, expect_left, expect_one_report,
+    expect_written,
 };
 use std::alloc::{AllocError, Global};
 use std::process::Abort;
@@ -299,6 +300,7 @@ fn expect_fault(rt: &impl Abort, alloc: Global, fault: &Fault) -> Result<(), Fai
     expect_trace(rt, alloc, &outside, fault.turns, &note)?;
     expect_file(rt, &outside, "c", Some(THREE_STEPS), &note);
     expect_left(rt, &mut outside, fault.left, &note);
+    expect_one_report(rt, &mut outside, &note);
     Ok(())
 }
 

@@ -31,11 +31,10 @@ mod words;
 use outside_io::{DirFiles, StdSink, StdSource};
 pub use status::{Status, Which};
 use std::alloc::AllocError;
-use std::env;
-use std::fs;
 use std::fs::File;
 use std::io::ErrorKind;
 use std::process::ExitCode;
+use std::{env, fs};
 pub use top::dromajo;
 pub use words::MOST_TURNS;
 

@@ -402,6 +402,8 @@ impl Files for Ending {
 
     ghost quiet = { λ _. ⊥ };
 
+    ghost can_rise = { λ _ quiet. absurd quiet };
+
     fn size(&mut self, _name: &str) -> Result<u64, OutFault> {
         Ok(10)
     }

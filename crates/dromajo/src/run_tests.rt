@@ -210,7 +210,8 @@ fn each_read_of_the_input_may_fail(rt: HostRuntime) -> Result<(), Fail> {
     Ok(())
 }
 
-// Runs an image of so many bytes.
+// Runs an image of so many bytes. Its file is asked for its size, and one read asks for all bytes: a third
+// call is to fail.
 fn expect_size(
     rt: &impl Abort,
     alloc: Global,
@@ -224,6 +225,7 @@ fn expect_size(
         image.push(0)?;
     }
     outside.files.put("a.bin", &image)?;
+    outside.fail_at([3, 0, 0, 0])?;
     let row = Row {
         line: "run --image a.bin --turns 1",
         code,

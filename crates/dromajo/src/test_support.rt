@@ -1,7 +1,7 @@
 // The whole program over files, input, output and report in memory, and the programs that it runs.
 
 use crate::top::dromajo;
-use outside_io::{MemFiles, MemSink, MemSource, OutFault, Source};
+use outside_io::{MemFiles, MemSink, MemSource, OutFault, Sink, Source};
 use std::alloc::{AllocError, Global};
 use std::fmt::Debug;
 use std::process::Abort;
@@ -222,6 +222,19 @@ pub(crate) fn expect_left(rt: &impl Abort, outside: &mut Outside, left: &str, no
     }
 }
 
+// The report got one call: the next one is the second, which is to fail.
+pub(crate) fn expect_one_report(rt: &impl Abort, outside: &mut Outside, note: &str) {
+    let _ = outside.report.fail_at(2);
+    let again = outside.report.write(b"");
+    same(
+        rt,
+        &again,
+        &Err(OutFault::Failed),
+        "the second call of the report after",
+        note,
+    );
+}
+
 // What a file holds: none where there is no such file.
 pub(crate) fn expect_file(
     rt: &impl Abort,
@@ -295,6 +308,7 @@ pub(crate) fn expect_row(
     expect_written(rt, outside, row.report, row.console, row.line);
     expect_file(rt, outside, "t", row.trace, row.line);
     expect_left(rt, outside, row.left, row.line);
+    expect_one_report(rt, outside, row.line);
     Ok(())
 }
 
