@@ -1,6 +1,6 @@
 -- Over quiet objects: names that are held stay held, and the trace's file is held once it was started; and where no
 -- fault ended the job, no count rose.
-use Rattle.std.proofs.Common.{◌≡◌, ◌++◌, ℕ, List, [], Option, Some, None, Ok, IsSome, refl, subst, sym, ap, arith}
+use Rattle.std.proofs.Common.{◌≡◌, ◌++◌, ℕ, List, [], Option, Some, None, Ok, IsSome, refl, subst, sym, arith}
 use Rattle.outside_io.specs.Causes.{CanRise, HasNotRisen}
 use Rattle.outside_io.specs.Content.{Held, IsHeld, Told, file_of}
 use Rattle.sim_config.specs.Reading.{config_of}

@@ -1,6 +1,6 @@
 -- Where a machine begins: its shape, the bytes of its memory and its entry, or why the files that it comes
 -- from are refused.
-use Rattle.std.specs.Prelude.{◌≡◌, ◌≢◌, ℕ, ◌+◌, ◌-◌, ◌%◌, List, ◌++◌, length, replicate, codes, nat_lt, if◌then◌else◌, Option, Some, None, Result, Ok, Err}
+use Rattle.std.specs.Prelude.{◌≡◌, ◌≢◌, ℕ, ◌-◌, ◌%◌, List, ◌++◌, length, replicate, codes, nat_lt, if◌then◌else◌, Option, Some, None, Result, Ok, Err}
 use Rattle.guest_ram.specs.Bytes.{base}
 use Rattle.outside_io.specs.Causes.{Rose}
 use Rattle.outside_io.specs.Content.{Held, file_of}
