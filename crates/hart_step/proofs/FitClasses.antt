@@ -1,5 +1,5 @@
--- What an instruction of each class keeps: the hart stays well formed, and memory its length, and both all else that a
--- core asks of them; and its device access is of a register that there is.
+-- What the instructions of each class keep: the hart stays well formed and keeps its number, memory stays a list of as
+-- many bytes, the ROM stays, and the device access is of a register that there is.
 use Rattle.std.proofs.Common.{◌≡◌, ℕ, ◌-◌, ◌%◌, ◌^◌, ◌<◌, ◌≤◌, ◌==◌, ◌&&◌, not, Bool, true, false, if◌then◌else◌, ℤ, length, Option, Some, None, IfSome, refl, ◌∙◌, arith, lit<}
 use Rattle.std.specs.Prelude.{Result, Ok, Err, IfOk, bit_and, bit_or}
 use Rattle.byteorder.specs.Endian.{little_bytes}

@@ -1,12 +1,13 @@
 -- What every step keeps, of a hart and of its core, and what is done to a core beside its steps.
-use Rattle.std.proofs.Common.{◌≡◌, ◌⊎◌, inl, inr, ℕ, ◌%◌, ◌<◌, ◌==◌, ◌&&◌, not, Bool, true, false, if◌then◌else◌, List, [], All, length, Option, Some, None, IfSome, refl, sym, subst, ap, ◌∙◌}
+use Rattle.std.proofs.Common.{◌≡◌, ◌⊎◌, inl, inr, ℕ, zero, suc, ◌%◌, ◌^◌, ◌<◌, ◌≤◌, ◌==◌, ◌&&◌, not, Bool, true, false, if◌then◌else◌, List, [], All, length, Option, Some, None, IfSome, refl, sym, subst, ap, ◌∙◌, arith, lit<}
 use Rattle.std.specs.Prelude.{Result, Ok, Err, IfOk}
 use Rattle.std.specs.List.{list_any}
 use Rattle.std.proofs.lemmas.List.{length-map}
-use Rattle.std.proofs.lemmas.List.Elements.{All-nil, All-set}
+use Rattle.std.proofs.lemmas.List.Elements.{All-nil, All-push, All-replicate, All-set}
 use Rattle.byteorder.specs.Endian.{little_bytes}
 use Rattle.guest_ram.proofs.PartLemmas.{length-with_part}
 use Rattle.rv_decode.specs.declared.Insn.{Insn}
+use Rattle.csr_file.proofs.FitLaws.{reset_registers-fit}
 use Rattle.trap_rules.specs.declared.Cause.{Cause}
 use Rattle.hart_step.specs.declared.event.Put.{Put}
 use Rattle.hart_step.specs.declared.hart.Hart.{Hart}
@@ -14,8 +15,8 @@ use Rattle.hart_step.specs.Allowed.{IsAllowed}
 use Rattle.hart_step.specs.Answers.{Given}
 use Rattle.hart_step.specs.Effects.{Effect, raises}
 use Rattle.hart_step.specs.Fit.{AreBytes, IsFit, IsWellFormed}
-use Rattle.hart_step.specs.Harts.{CoreState, hart_of, is_in_debug, reset_hart}
-use Rattle.hart_step.specs.Laws.{HostStaysFit, IsListedAccess, StepStaysFit, StepsStayFit, UnreservedStaysFit}
+use Rattle.hart_step.specs.Harts.{CoreState, hart_of, is_in_debug, reset_core, reset_hart, reset_harts}
+use Rattle.hart_step.specs.Laws.{HostStaysFit, IsListedAccess, ResetIsFit, StepStaysFit, StepsStayFit, UnreservedStaysFit}
 use Rattle.hart_step.specs.Memory.{Exception, MemoryState, exception}
 use Rattle.hart_step.specs.Shown.{Done}
 use Rattle.hart_step.specs.Step.{Fetched, HartAnswer, after_store, commits, core_after, decoded, fetched, from_decoded, from_fetched, from_interrupt, hart_step, host_cleared, memory_of, parcel, retired, rom_after, step, stored_by, traps, unreserved, unreserved_hart, with_high, with_low}
@@ -24,7 +25,7 @@ use Rattle.hart_step.proofs.FitEffects.{effect_fits}
 use Rattle.hart_step.proofs.FitHarts.{HartFits, counted_fits, enters_fits, same_hart}
 use Rattle.hart_step.proofs.FitMemory.{stored_bytes}
 use Rattle.hart_step.proofs.FitOffsets.{HasEvenOffset, decoded_even}
-use Rattle.hart_step.proofs.Kept.{kept_lost, kept_step, kept_unreserved}
+use Rattle.hart_step.proofs.Kept.{kept_lost, kept_reset, kept_step, kept_unreserved}
 use Rattle.hart_step.proofs.Lists.{after_length, lost_fit, unreserved_fit}
 
 -- ---- one hart
@@ -170,3 +171,28 @@ unreserved_stays_fit core fit =
       ram = refl;
       rom = inl refl;
     }
+
+-- ---- reset
+
+reset_formed : (h entry : ℕ) → h < 8 → entry % 2 ≡ 0 → entry < 2 ^ 64 → IsWellFormed (reset_hart h entry)
+reset_formed h entry within even below = record {
+  fit = record { zero = refl; even = even; aligned = tt };
+  pc = below;
+  count = refl;
+  values = All-replicate (λ v. v < 2 ^ 64) 32 0 (lit< tt);
+  registers = reset_registers-fit h within;
+  reservation = tt;
+}
+
+resets_formed : (n entry : ℕ) → n ≤ 8 → entry % 2 ≡ 0 → entry < 2 ^ 64 → All IsWellFormed (reset_harts n entry)
+unfolding reset_harts
+resets_formed zero entry most even below = All-nil IsWellFormed
+resets_formed (suc n) entry most even below =
+    All-push IsWellFormed (reset_harts n entry) (reset_hart n entry) (resets_formed n entry (omega (arith, most)) even below) (reset_formed n entry (omega (arith, most)) even below)
+
+pub reset_is_fit_lem : ResetIsFit
+reset_is_fit_lem harts ram entry some most are even below = record {
+  kept = kept_reset harts entry (reset_core harts ram entry) some most (resets_formed harts entry most even below) refl refl;
+  ram = are;
+  rom = All-nil (λ b. b < 256);
+}

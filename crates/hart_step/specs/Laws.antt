@@ -1,10 +1,10 @@
 -- What follows from the definitions: every step, a store of the host and lost reservations keep a core well formed.
-use Rattle.std.specs.Prelude.{◌≡◌, ◌^◌, ◌<◌, ◌⊎◌, ℕ, [], IsTrue, length}
+use Rattle.std.specs.Prelude.{◌≡◌, ◌%◌, ◌^◌, ◌<◌, ◌≤◌, ◌⊎◌, ℕ, List, [], IsTrue, length}
 use Rattle.board_bus.specs.Listed.{is_listed}
 use Rattle.hart_step.specs.Allowed.{IsAllowed}
 use Rattle.hart_step.specs.Answers.{Access, Given, Loads, Stores, Untouched}
-use Rattle.hart_step.specs.Fit.{IsFit}
-use Rattle.hart_step.specs.Harts.{CoreState, hart_of}
+use Rattle.hart_step.specs.Fit.{AreBytes, IsFit}
+use Rattle.hart_step.specs.Harts.{CoreState, hart_of, reset_core}
 use Rattle.hart_step.specs.Step.{Answer, host_cleared, step, unreserved}
 
 -- a device access is of a register that a board of n harts lists, and a value that is stored has as many bytes
@@ -37,3 +37,8 @@ HostStaysFit = (core : CoreState) (at : ℕ) → IsFit core → StaysWellFormed 
 -- the loss of every reservation
 abbrev pub UnreservedStaysFit : Type 0
 UnreservedStaysFit = (core : CoreState) → IsFit core → StaysWellFormed core (unreserved core)
+
+-- a core at reset is well formed, of one to eight harts, over bytes, and with an even entry
+abbrev pub ResetIsFit : Type 0
+ResetIsFit = (harts : ℕ) (ram : List ℕ) (entry : ℕ) →
+    0 < harts → harts ≤ 8 → AreBytes ram → entry % 2 ≡ 0 → entry < 2 ^ 64 → IsFit (reset_core harts ram entry)

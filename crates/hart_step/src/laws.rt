@@ -1,6 +1,6 @@
 // Laws of the definitions, each as the contract of a call that does nothing.
 
-ghost use Rattle.hart_step.specs.Laws.{HostStaysFit, StepsStayFit, UnreservedStaysFit};
+ghost use Rattle.hart_step.specs.Laws.{HostStaysFit, ResetIsFit, StepsStayFit, UnreservedStaysFit};
 ghost use Rattle.hart_step.specs.Told.{EffectsFollow, StepsFollow};
 
 /// Every step of a well-formed core, where it is given what the manuals allow, leaves a well-formed
@@ -13,6 +13,11 @@ pub fn steps_stay_fit()
 pub fn changes_stay_fit()
     ensures host { HostStaysFit }
     ensures unreserved { UnreservedStaysFit }
+{}
+
+/// A core at reset is well formed.
+pub fn reset_is_fit()
+    ensures { ResetIsFit }
 {}
 
 /// An instruction that is told what another carrying out of it showed does the same, also on a hart that
