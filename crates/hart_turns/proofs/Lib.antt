@@ -10,3 +10,5 @@ pub mod BootHarts
 pub mod BootLaws
 pub mod BootEnds
 pub mod BootAnswers
+pub mod Fits
+pub mod BootFits

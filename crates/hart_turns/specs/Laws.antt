@@ -1,4 +1,4 @@
--- What follows from the definitions.
+-- What follows from the definitions: what the board gives is allowed, and what a boot does.
 use Rattle.std.specs.Prelude.{◌≡◌, ◌≤◌, ℕ, IsFalse, IsTrue, None, Some, length}
 use Rattle.board_bus.specs.Board.{BoardState}
 use Rattle.hart_step.specs.Allowed.{IsAllowed}

@@ -5,4 +5,5 @@ pub mod Boot
 pub mod Kept
 pub mod Fit
 pub mod Laws
+pub mod FitLaws
 pub mod Events

@@ -1,5 +1,6 @@
 // Laws of the definitions, each as the contract of a call that does nothing.
 
+ghost use Rattle.hart_turns.specs.FitLaws.{BoardStepsStayFit, BootsStayFit, ClearingStaysFit, ResetIsFit, TurnsStayFit};
 ghost use Rattle.hart_turns.specs.Laws.{BoardIsAllowed, BootsEnd, LowestSteps};
 
 /// What the board gives a step is one of the behaviours that the manuals allow.
@@ -15,4 +16,18 @@ pub fn boots_step_lowest()
 /// A boot leaves no hart in debug mode where it met no fault, and some hart there where it did.
 pub fn boots_end_debug()
     ensures { BootsEnd }
+{}
+
+/// Every step on the board keeps a core and a board of a shape well formed.
+pub fn board_steps_stay_fit()
+    ensures { BoardStepsStayFit }
+{}
+
+/// So do every turn of a machine, every boot and the loss of every reservation, and a machine at reset
+/// is well formed.
+pub fn machines_stay_fit()
+    ensures turns { TurnsStayFit }
+    ensures boots { BootsStayFit }
+    ensures clearing { ClearingStaysFit }
+    ensures reset { ResetIsFit }
 {}

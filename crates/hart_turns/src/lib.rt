@@ -38,5 +38,7 @@ mod tests_timer;
 mod tests_window;
 
 pub use booting::BootFault;
-pub use laws::{board_is_allowed, boots_end_debug, boots_step_lowest};
+pub use laws::{
+    board_is_allowed, board_steps_stay_fit, boots_end_debug, boots_step_lowest, machines_stay_fit,
+};
 pub use machine::{Machine, NoMemory, TurnEnd};
