@@ -1,8 +1,7 @@
 -- A boot keeps a machine well formed, since each of its steps does.
-use Rattle.std.proofs.Common.{◌≡◌, ℕ, ◌<◌, length, sym, subst}
+use Rattle.std.proofs.Common.{ℕ, ◌<◌, sym, subst}
 use Rattle.sim_config.specs.declared.values.Shape.{Shape}
 use Rattle.hart_turns.specs.Boot.{Booting, begins_boot, boot_harts, boot_step, booted}
-use Rattle.hart_turns.specs.Fit.{IsFit}
 use Rattle.hart_turns.specs.FitLaws.{AreFit, BootsStayFit}
 use Rattle.hart_turns.proofs.BootLaws.{boots_keep}
 use Rattle.hart_turns.proofs.Fits.{board_steps_stay_fit_lem, parts_of, whole}
