@@ -194,7 +194,7 @@ written_after : (given : Given) (n len : ℕ) (hart : Hart) (memory : MemoryStat
 written_after given n len hart memory s r aligned below rd value small =
     let before : Hart = record hart { reservation = r } in
     let fits : HartFits before (with_write before rd value (pc_after hart len)) = wrote before rd value (pc_after hart len) (reserved_fits hart r s.formed aligned below) small (after_fits hart len s.formed s.len_even) in
-    record { formed = fits.formed; number = fits.number }
+    record { formed = fits.formed; number = fits.number; outside = fits.outside }
 
 reserved_from : (given : Given) (n len : ℕ) (hart : Hart) (memory : MemoryState) → Stands given len hart memory → (size rd : ℕ) (a : Result ℕ Exception) → IsAddress a → FitEffect n hart memory (reserves_from size len rd a hart memory)
 reserved_from given n len hart memory s size rd (Err e) below = raises_fit given n len hart memory s e
@@ -256,7 +256,7 @@ accesses_fit given n len hart memory s word rd number reads is_written seen valu
     let changed : HartFits hart before = csr_fits is_written number value hart s.formed in
     let fits : HartFits before (with_write before rd (view hart.csrs number seen) (pc_after hart len)) = wrote before rd (view hart.csrs number seen) (pc_after hart len) changed.formed (view_below hart.csrs number seen s.formed.registers small) (after_fits hart len s.formed s.len_even) in
     csr_effect n hart memory s.ram (may_access hart.csrs hart.mode number is_written) _ _
-    (record { formed = fits.formed; number = fits.number ∙ changed.number }) (same_hart hart s.formed)
+    (record { formed = fits.formed; number = fits.number ∙ changed.number; outside = λ out. fits.outside (changed.outside out) }) (same_hart hart s.formed)
 
 pub writes_csr_fit : (given : Given) (n len : ℕ) (hart : Hart) (memory : MemoryState) → Stands given len hart memory → (word rd number value : ℕ) → FitEffect n hart memory (with_memory (writes_csr given len word rd number value hart) memory)
 writes_csr_fit given n len hart memory s word rd number value =

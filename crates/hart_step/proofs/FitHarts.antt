@@ -1,7 +1,7 @@
--- What a change of a hart keeps: it stays well formed, and keeps its number.
-use Rattle.std.proofs.Common.{◌≡◌, ℕ, ◌%◌, ◌^◌, ◌<◌, ◌==◌, Bool, true, false, if◌then◌else◌, Option, Some, None, IfSome, refl, sym, ◌∙◌, arith, lit<}
+-- What a change of a hart keeps: it stays well formed, keeps its number, and stays out of debug mode.
+use Rattle.std.proofs.Common.{◌≡◌, ℕ, ◌%◌, ◌^◌, ◌<◌, ◌==◌, Bool, true, false, if◌then◌else◌, Option, Some, None, IfSome, IsNone, refl, sym, subst, ◌∙◌, arith, lit<}
 use Rattle.std.specs.Prelude.{slice_set}
-use Rattle.std.proofs.lemmas.Bool.{eq-eqb, false≢true}
+use Rattle.std.proofs.lemmas.Bool.{cond_both, eq-eqb, false≢true}
 use Rattle.std.proofs.lemmas.List.{get_or-set_other, length-set}
 use Rattle.std.proofs.lemmas.List.Elements.{All-set}
 use Rattle.rv_alu.specs.declared.Mode.{Mode}
@@ -17,6 +17,7 @@ use Rattle.csr_file.proofs.LegalLaws.{IsLegal-below, dpc-even, mepc-even, sepc-e
 use Rattle.trap_rules.specs.declared.Cause.{Cause}
 use Rattle.trap_rules.specs.Entry.{entered, goes_to_supervisor, handler, handler_pc, machine_entered, supervisor_entered}
 use Rattle.trap_rules.specs.Return.{debug_returned, machine_returned, resumed_pc, supervisor_returned}
+use Rattle.trap_rules.proofs.ReturnLaws.{machine_entered-debug, supervisor_entered-debug}
 use Rattle.hart_step.specs.declared.hart.Hart.{Hart}
 use Rattle.hart_step.specs.Effects.{at_pc, resumed, with_csr, with_write}
 use Rattle.hart_step.specs.Fit.{IsWellFormed}
@@ -24,15 +25,17 @@ use Rattle.hart_step.specs.Harts.{register}
 use Rattle.hart_step.specs.Step.{enters}
 use Rattle.hart_step.proofs.FitValues.{either_below}
 use Rattle.hart_step.proofs.Numbers.{counted_number, debug_returned_number, entered_number, machine_returned_number, supervisor_returned_number, written_number}
+use Rattle.hart_step.proofs.Outside.{counted_outside, written_outside}
 
 -- ---- one hart after another
 
 pub record HartFits (before after : Hart) : Type 0 where
   pub formed : IsWellFormed after
   pub number : after.csrs.hart ≡ before.csrs.hart
+  pub outside : IsNone before.csrs.debug → IsNone after.csrs.debug
 
 pub same_hart : (hart : Hart) → IsWellFormed hart → HartFits hart hart
-same_hart hart formed = record { formed = formed; number = refl }
+same_hart hart formed = record { formed = formed; number = refl; outside = λ out. out }
 
 pub register_below : (hart : Hart) (i : ℕ) → IsWellFormed hart → register hart i < 2 ^ 64
 register_below hart i formed = at_place (λ v. v < 2 ^ 64) hart.x i formed.values (lit< tt)
@@ -53,6 +56,7 @@ moved hart next formed pc = record {
     reservation = formed.reservation;
   };
   number = refl;
+  outside = λ out. out;
 }
 
 wrote_cases : (b : Bool) (hart : Hart) (rd value next : ℕ) → (rd == 0) ≡ b → IsWellFormed hart → value < 2 ^ 64 → IsPc next → HartFits hart (record (if b then hart else record hart { x = slice_set hart.x rd value }) { pc = next })
@@ -71,6 +75,7 @@ wrote_cases false hart rd value next is formed small pc = record {
     reservation = formed.reservation;
   };
   number = refl;
+  outside = λ out. out;
 }
 
 pub wrote : (hart : Hart) (rd value next : ℕ) → IsWellFormed hart → value < 2 ^ 64 → IsPc next → HartFits hart (with_write hart rd value next)
@@ -90,8 +95,8 @@ reserved_fits hart r formed aligned below = record {
 
 -- ---- its control and status registers
 
-pub resumed_fits : (csrs : Registers) (mode : Mode) (next : ℕ) (hart : Hart) → IsWellFormed hart → registers.IsFit csrs → csrs.hart ≡ hart.csrs.hart → IsPc next → HartFits hart (resumed csrs mode next hart)
-resumed_fits csrs mode next hart formed fit number pc = record {
+pub resumed_fits : (csrs : Registers) (mode : Mode) (next : ℕ) (hart : Hart) → IsWellFormed hart → registers.IsFit csrs → csrs.hart ≡ hart.csrs.hart → (IsNone hart.csrs.debug → IsNone csrs.debug) → IsPc next → HartFits hart (resumed csrs mode next hart)
+resumed_fits csrs mode next hart formed fit number outside pc = record {
   formed = record {
     fit = record { zero = formed.fit.zero; even = pc.even; aligned = formed.fit.aligned };
     pc = pc.below;
@@ -101,6 +106,7 @@ resumed_fits csrs mode next hart formed fit number pc = record {
     reservation = formed.reservation;
   };
   number = number;
+  outside = outside;
 }
 
 -- the pc of the hart itself
@@ -109,12 +115,12 @@ own_pc hart formed = record { even = formed.fit.even; below = formed.pc }
 
 pub csr_fits : (b : Bool) (number value : ℕ) (hart : Hart) → IsWellFormed hart → HartFits hart (record hart { csrs = with_csr b number value hart.csrs })
 csr_fits true number value hart formed =
-    resumed_fits (written number value hart.csrs) hart.mode hart.pc hart formed (written-fit number value hart.csrs formed.registers) (written_number number value hart.csrs) (own_pc hart formed)
+    resumed_fits (written number value hart.csrs) hart.mode hart.pc hart formed (written-fit number value hart.csrs formed.registers) (written_number number value hart.csrs) (written_outside number value hart.csrs) (own_pc hart formed)
 csr_fits false number value hart formed = same_hart hart formed
 
 pub counted_fits : (retired : Bool) (wrote : Option ℕ) (hart : Hart) → IsWellFormed hart → HartFits hart (record hart { csrs = counted retired wrote hart.csrs })
 counted_fits retired wrote hart formed =
-    resumed_fits (counted retired wrote hart.csrs) hart.mode hart.pc hart formed (counted-fit retired wrote hart.csrs formed.registers) (counted_number retired wrote hart.csrs) (own_pc hart formed)
+    resumed_fits (counted retired wrote hart.csrs) hart.mode hart.pc hart formed (counted-fit retired wrote hart.csrs formed.registers) (counted_number retired wrote hart.csrs) (counted_outside retired wrote hart.csrs) (own_pc hart formed)
 
 -- ---- returns
 
@@ -130,14 +136,26 @@ debug_returned_fit : (r : Registers) → registers.IsFit r → registers.IsFit (
 unfolding debug_returned
 debug_returned_fit r fit = let none : (d : DebugRegs) → None ≡ Some d → registers.IsDebugFit d = λ d is. absurd (cc) in assumption (fit, none)
 
+machine_returned_outside : (r : Registers) → IsNone r.debug → IsNone (machine_returned r).debug
+unfolding machine_returned
+machine_returned_outside r out = written_outside _ _ r out
+
+supervisor_returned_outside : (r : Registers) → IsNone r.debug → IsNone (supervisor_returned r).debug
+unfolding supervisor_returned
+supervisor_returned_outside r out = written_outside _ _ r out
+
+debug_returned_outside : (r : Registers) → IsNone r.debug → IsNone (debug_returned r).debug
+unfolding debug_returned
+debug_returned_outside r out = refl
+
 pub machine_returns : (mode : Mode) (hart : Hart) → IsWellFormed hart → HartFits hart (resumed (machine_returned hart.csrs) mode hart.csrs.mepc hart)
 machine_returns mode hart formed =
-    resumed_fits (machine_returned hart.csrs) mode hart.csrs.mepc hart formed (machine_returned_fit hart.csrs formed.registers) (machine_returned_number hart.csrs)
+    resumed_fits (machine_returned hart.csrs) mode hart.csrs.mepc hart formed (machine_returned_fit hart.csrs formed.registers) (machine_returned_number hart.csrs) (machine_returned_outside hart.csrs)
     (record { even = mepc-even hart.csrs.mepc formed.registers.mepc; below = IsLegal-below csr_mepc hart.csrs.mepc formed.registers.mepc })
 
 pub supervisor_returns : (mode : Mode) (hart : Hart) → IsWellFormed hart → HartFits hart (resumed (supervisor_returned hart.csrs) mode hart.csrs.sepc hart)
 supervisor_returns mode hart formed =
-    resumed_fits (supervisor_returned hart.csrs) mode hart.csrs.sepc hart formed (supervisor_returned_fit hart.csrs formed.registers) (supervisor_returned_number hart.csrs)
+    resumed_fits (supervisor_returned hart.csrs) mode hart.csrs.sepc hart formed (supervisor_returned_fit hart.csrs formed.registers) (supervisor_returned_number hart.csrs) (supervisor_returned_outside hart.csrs)
     (record { even = sepc-even hart.csrs.sepc formed.registers.sepc; below = IsLegal-below csr_sepc hart.csrs.sepc formed.registers.sepc })
 
 debug_pc : (o : Option DebugRegs) → ((d : DebugRegs) → o ≡ Some d → registers.IsDebugFit d) → IsPc (resumed_pc o)
@@ -146,7 +164,7 @@ debug_pc (Some d) fit = let kept = fit d refl in record { even = dpc-even d.dpc 
 
 pub debug_returns : (mode : Mode) (hart : Hart) → IsWellFormed hart → HartFits hart (resumed (debug_returned hart.csrs) mode (resumed_pc hart.csrs.debug) hart)
 debug_returns mode hart formed =
-    resumed_fits (debug_returned hart.csrs) mode (resumed_pc hart.csrs.debug) hart formed (debug_returned_fit hart.csrs formed.registers) (debug_returned_number hart.csrs)
+    resumed_fits (debug_returned hart.csrs) mode (resumed_pc hart.csrs.debug) hart formed (debug_returned_fit hart.csrs formed.registers) (debug_returned_number hart.csrs) (debug_returned_outside hart.csrs)
     (debug_pc hart.csrs.debug formed.registers.debug)
 
 -- ---- traps
@@ -168,6 +186,13 @@ unfolding entered
 entered_fit mode cause tval pc r fit =
     either_fit (goes_to_supervisor r mode cause) _ _ (supervisor_entered_fit mode cause tval pc r fit) (machine_entered_fit mode cause tval pc r fit)
 
+entered_outside : (mode : Mode) (cause : Cause) (tval pc : ℕ) (r : Registers) → IsNone r.debug → IsNone (entered mode cause tval pc r).debug
+unfolding entered
+entered_outside mode cause tval pc r out =
+    cond_both (goes_to_supervisor r mode cause) (supervisor_entered mode cause tval pc r) (machine_entered mode cause tval pc r) (λ (x : Registers). IsNone x.debug)
+    (λ to. subst (λ (d : Option DebugRegs). IsNone d) (sym (supervisor_entered-debug mode cause tval pc r)) out)
+    (λ to. subst (λ (d : Option DebugRegs). IsNone d) (sym (machine_entered-debug mode cause tval pc r)) out)
+
 pub either_pc : (b : Bool) (x y : ℕ) → IsPc x → IsPc y → IsPc (if b then x else y)
 either_pc true x y first second = first
 either_pc false x y first second = second
@@ -183,4 +208,5 @@ enters_fits cause tval hart formed =
     let fit : registers.IsFit r = entered_fit hart.mode cause tval hart.pc hart.csrs formed.registers in
     resumed_fits (counted false None r) _ (handler_pc hart.csrs hart.mode cause) hart formed (counted-fit false None r fit)
     (counted_number false None r ∙ entered_number hart.mode cause tval hart.pc hart.csrs)
+    (λ out. counted_outside false None r (entered_outside hart.mode cause tval hart.pc hart.csrs out))
     (handler_fits _ cause (either_below (goes_to_supervisor hart.csrs hart.mode cause) _ _ (IsLegal-below csr_stvec hart.csrs.stvec formed.registers.stvec) (IsLegal-below csr_mtvec hart.csrs.mtvec formed.registers.mtvec)))

@@ -1,5 +1,5 @@
 -- What every step keeps, of a hart and of its core, and what is done to a core beside its steps.
-use Rattle.std.proofs.Common.{◌≡◌, ◌⊎◌, inl, inr, ℕ, zero, suc, ◌%◌, ◌^◌, ◌<◌, ◌≤◌, ◌==◌, ◌&&◌, not, Bool, true, false, if◌then◌else◌, List, [], All, length, Option, Some, None, IfSome, refl, sym, subst, ap, ◌∙◌, arith, lit<}
+use Rattle.std.proofs.Common.{◌≡◌, ◌⊎◌, inl, inr, ℕ, zero, suc, ◌%◌, ◌^◌, ◌<◌, ◌≤◌, ◌==◌, ◌&&◌, not, Bool, true, false, if◌then◌else◌, List, [], ◌∷◌, All, length, map, set, get_or, is_some, Option, Some, None, IfSome, refl, sym, subst, ap, ◌∙◌, arith, lit<}
 use Rattle.std.specs.Prelude.{Result, Ok, Err, IfOk}
 use Rattle.std.specs.List.{list_any}
 use Rattle.std.proofs.lemmas.List.{length-map}
@@ -7,6 +7,7 @@ use Rattle.std.proofs.lemmas.List.Elements.{All-nil, All-push, All-replicate, Al
 use Rattle.byteorder.specs.Endian.{little_bytes}
 use Rattle.guest_ram.proofs.PartLemmas.{length-with_part}
 use Rattle.rv_decode.specs.declared.Insn.{Insn}
+use Rattle.csr_file.specs.declared.registers.Registers.{Registers}
 use Rattle.csr_file.proofs.FitLaws.{reset_registers-fit}
 use Rattle.trap_rules.specs.declared.Cause.{Cause}
 use Rattle.hart_step.specs.declared.event.Put.{Put}
@@ -19,13 +20,13 @@ use Rattle.hart_step.specs.Harts.{CoreState, hart_of, is_in_debug, reset_core, r
 use Rattle.hart_step.specs.Laws.{HostStaysFit, IsListedAccess, ResetIsFit, StepStaysFit, StepsStayFit, UnreservedStaysFit}
 use Rattle.hart_step.specs.Memory.{Exception, MemoryState, exception}
 use Rattle.hart_step.specs.Shown.{Done}
-use Rattle.hart_step.specs.Step.{Fetched, HartAnswer, after_store, commits, core_after, decoded, fetched, from_decoded, from_fetched, from_interrupt, hart_step, host_cleared, memory_of, parcel, retired, rom_after, step, stored_by, traps, unreserved, unreserved_hart, with_high, with_low}
+use Rattle.hart_step.specs.Step.{Fetched, HartAnswer, after_store, commits, core_after, decoded, fetched, from_decoded, from_fetched, from_interrupt, hart_step, host_cleared, memory_of, parcel, retired, rom_after, step, stored_by, traps, unreserved, unreserved_hart, with_high, with_low, without_reservation}
 use Rattle.hart_step.proofs.FitClasses.{FitEffect, MemoryFits, Stands, raises_fit, same_memory}
 use Rattle.hart_step.proofs.FitEffects.{effect_fits}
 use Rattle.hart_step.proofs.FitHarts.{HartFits, counted_fits, enters_fits, same_hart}
 use Rattle.hart_step.proofs.FitMemory.{stored_bytes}
 use Rattle.hart_step.proofs.FitOffsets.{HasEvenOffset, decoded_even}
-use Rattle.hart_step.proofs.Kept.{kept_lost, kept_reset, kept_step, kept_unreserved}
+use Rattle.hart_step.proofs.Kept.{kept_lost, kept_reset, kept_step, kept_unreserved, lost_keeps}
 use Rattle.hart_step.proofs.Lists.{after_length, lost_fit, unreserved_fit}
 
 -- ---- one hart
@@ -36,7 +37,7 @@ record FitAnswer (n : ℕ) (hart : Hart) (memory : MemoryState) (a : HartAnswer)
   access : IsListedAccess n a.access
 
 fits_on : (first second third : Hart) → HartFits first second → HartFits second third → HartFits first third
-fits_on first second third one two = record { formed = two.formed; number = two.number ∙ one.number }
+fits_on first second third one two = record { formed = two.formed; number = two.number ∙ one.number; outside = λ out. two.outside (one.outside out) }
 
 retired_fits : (b : Bool) (wrote : Option ℕ) (hart : Hart) → IsWellFormed hart → HartFits hart (retired b wrote hart)
 retired_fits true wrote hart formed = same_hart hart formed
@@ -104,6 +105,23 @@ hart_fits given n h hart memory formed ram rom allowed = interrupt_fits given n 
 
 -- ---- its core
 
+-- what is out of debug mode stays out of it, also past the end of the list
+keeps_outside : (f : Hart → Hart) → ((x : Hart) → (f x).csrs ≡ x.csrs) → (xs : List Hart) (k : ℕ) (d : Hart) → is_in_debug (get_or xs k d) ≡ false → is_in_debug (get_or (map f xs) k d) ≡ false
+keeps_outside f keeps [] k d out = out
+keeps_outside f keeps (x ∷ xs) zero d out = ap (λ (r : Registers). is_some r.debug) (keeps x) ∙ out
+keeps_outside f keeps (x ∷ xs) (suc k) d out = keeps_outside f keeps xs k d out
+
+lost_outside : (put : Option Put) (xs : List Hart) (k : ℕ) (d : Hart) → is_in_debug (get_or xs k d) ≡ false → is_in_debug (get_or (after_store put xs) k d) ≡ false
+lost_outside None xs k d out = out
+lost_outside (Some put) xs k d out = keeps_outside (without_reservation put.at put.size) (lost_keeps put.at put.size) xs k d out
+
+set_outside : (xs : List Hart) (h : ℕ) (y : Hart) (k : ℕ) (d : Hart) → (k ≡ h → is_in_debug y ≡ false) → is_in_debug (get_or xs k d) ≡ false → is_in_debug (get_or (set xs h y) k d) ≡ false
+set_outside [] h y k d own out = out
+set_outside (x ∷ xs) zero y zero d own out = own refl
+set_outside (x ∷ xs) zero y (suc k) d own out = out
+set_outside (x ∷ xs) (suc h) y zero d own out = out
+set_outside (x ∷ xs) (suc h) y (suc k) d own out = set_outside xs h y k d (λ e. own (ap suc e)) out
+
 after_fit : (put : Option Put) (harts : List Hart) → All IsWellFormed harts → All IsWellFormed (after_store put harts)
 after_fit None harts fit = fit
 after_fit (Some put) harts fit = lost_fit put.at put.size harts fit
@@ -133,6 +151,9 @@ core_fits core h fit within a fits =
         harts = after_length (stored_by a.event) core.harts h a.hart;
         ram = fits.memory_fits.long;
         rom = rom;
+        outside = λ k out. set_outside (after_store (stored_by a.event) core.harts) h a.hart k (reset_hart 0 0)
+            (λ e. fits.hart_fits.outside (subst (λ (i : ℕ). is_in_debug (hart_of core i) ≡ false) e out))
+            (lost_outside (stored_by a.event) core.harts k (reset_hart 0 0) out);
       };
       access = fits.access;
     }
@@ -156,6 +177,7 @@ host_stays_fit core at fit =
       harts = length-map core.harts _;
       ram = length-with_part core.ram at (little_bytes 8 0);
       rom = inl refl;
+      outside = λ k out. keeps_outside (without_reservation at 8) (lost_keeps at 8) core.harts k (reset_hart 0 0) out;
     }
 
 pub unreserved_stays_fit : UnreservedStaysFit
@@ -170,6 +192,7 @@ unreserved_stays_fit core fit =
       harts = length-map core.harts unreserved_hart;
       ram = refl;
       rom = inl refl;
+      outside = λ k out. keeps_outside unreserved_hart (λ x. refl) core.harts k (reset_hart 0 0) out;
     }
 
 -- ---- reset

@@ -41,7 +41,7 @@ lost_by : (b : Bool) (x : Hart) → (if b then record x { reservation = None } e
 lost_by true x = refl
 lost_by false x = refl
 
-lost_keeps : (at size : ℕ) → KeepsRegisters (without_reservation at size)
+pub lost_keeps : (at size : ℕ) → KeepsRegisters (without_reservation at size)
 lost_keeps at size x = lost_by (is_touched at size x.reservation) x
 
 -- ---- one hart in its place

@@ -1,10 +1,10 @@
 -- What follows from the definitions: every step, a store of the host and lost reservations keep a core well formed.
-use Rattle.std.specs.Prelude.{◌≡◌, ◌%◌, ◌^◌, ◌<◌, ◌≤◌, ◌⊎◌, ℕ, List, [], IsTrue, length}
+use Rattle.std.specs.Prelude.{◌≡◌, ◌%◌, ◌^◌, ◌<◌, ◌≤◌, ◌⊎◌, ℕ, List, [], IsFalse, IsTrue, length}
 use Rattle.board_bus.specs.Listed.{is_listed}
 use Rattle.hart_step.specs.Allowed.{IsAllowed}
 use Rattle.hart_step.specs.Answers.{Access, Given, Loads, Stores, Untouched}
 use Rattle.hart_step.specs.Fit.{AreBytes, IsFit}
-use Rattle.hart_step.specs.Harts.{CoreState, hart_of, reset_core}
+use Rattle.hart_step.specs.Harts.{CoreState, hart_of, is_in_debug, reset_core}
 use Rattle.hart_step.specs.Step.{Answer, host_cleared, step, unreserved}
 
 -- a device access is of a register that a board of n harts lists, and a value that is stored has as many bytes
@@ -13,12 +13,14 @@ IsListedAccess n Untouched = Unit {0}
 IsListedAccess n (Loads at size) = IsTrue (is_listed n at size)
 IsListedAccess n (Stores at size value) = IsTrue (is_listed n at size) × (value < 256 ^ size)
 
--- a core is well formed after a change, with as many harts, as many bytes of RAM, and the same ROM or none
+-- a core is well formed after a change, with as many harts, as many bytes of RAM, and the same ROM or none; and a hart
+-- that is out of debug mode stays out of it
 pub record StaysWellFormed (before after : CoreState) : Type 0 where
   pub fit : IsFit after
   pub harts : length after.harts ≡ length before.harts
   pub ram : length after.ram ≡ length before.ram
   pub rom : (after.rom ≡ before.rom) ⊎ (after.rom ≡ [])
+  pub outside : (k : ℕ) → IsFalse (is_in_debug (hart_of before k)) → IsFalse (is_in_debug (hart_of after k))
 
 -- so it is after a step, whose device access is of a register that there is
 pub record StepStaysFit (before : CoreState) (answer : Answer) : Type 0 where

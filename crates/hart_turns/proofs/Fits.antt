@@ -1,15 +1,20 @@
 -- What every step on the board, every turn and a clearing keep.
-use Rattle.std.proofs.Common.{ℕ, zero, suc, ◌+◌, ◌^◌, ◌<◌, ◌≤◌, Bool, true, false, if◌then◌else◌, Option, Some, None, IfSome, length, sym, subst, ◌∙◌, arith, lit<}
-use Rattle.std.specs.Prelude.{nat_lt}
+use Rattle.std.proofs.Common.{◌≡◌, inl, inr, ℕ, zero, suc, not, List, get_or, refl, ap, ◌+◌, ◌^◌, ◌<◌, ◌≤◌, Bool, true, false, if◌then◌else◌, Option, Some, None, IfSome, length, sym, subst, ◌∙◌, arith, lit<}
+use Rattle.std.specs.Prelude.{is_none, nat_lt}
+use Rattle.std.specs.List.{position_or_len}
+use Rattle.std.proofs.lemmas.Bool.{cases_lt, false≢true, ltb-false, ltb-true, not-true}
+use Rattle.std.proofs.lemmas.List.{get_or_past}
+use Rattle.std.proofs.lemmas.List.Sums.{prefix_len_passes, prefix_len_stops}
 use Rattle.sim_config.specs.declared.values.Shape.{Shape}
 use Rattle.console.specs.State.{queue_room}
 use Rattle.board_bus.specs.Board.{BoardState, IsFit as IsFitBoard, ticked}
 use Rattle.board_bus.specs.declared.window.HostSays.{HostSays}
 use Rattle.board_bus.specs.declared.window.HostSays.TheVariants.{Nothing, End, Send, Bad}
 use Rattle.board_bus.proofs.Fits as devices
-use Rattle.hart_step.specs.declared.hart.Hart.{Hart}
 use Rattle.hart_step.specs.Answers.{Access, Loads, Stores, Untouched}
-use Rattle.hart_step.specs.Harts.{CoreState, hart_of}
+use Rattle.csr_file.specs.Kept.{reset_registers}
+use Rattle.hart_step.specs.declared.hart.Hart.{Hart}
+use Rattle.hart_step.specs.Harts.{CoreState, hart_of, is_in_debug, lowest_in_debug, reset_hart}
 use Rattle.hart_step.specs.Laws.{StaysWellFormed, StepStaysFit}
 use Rattle.hart_step.specs.Step.{host_cleared, unreserved}
 use Rattle.hart_step.proofs.FitSteps as core_laws
@@ -17,9 +22,9 @@ use Rattle.hart_step.proofs.Lists.{reset_length}
 use Rattle.hart_turns.specs.declared.machine.TurnEnd.{TurnEnd}
 use Rattle.hart_turns.specs.declared.machine.TurnEnd.TheVariants.{Goes, Ended, BadHost}
 use Rattle.hart_turns.specs.Fit.{IsFit}
-use Rattle.hart_turns.specs.FitLaws.{AreFit, BoardStepsStayFit, ClearingStaysFit, ResetIsFit, TurnsStayFit}
+use Rattle.hart_turns.specs.FitLaws.{AreFit, BoardStepsStayFit, ClearingStaysFit, ResetIsFit, TurnsStayFit, TurnsStayRunning}
 use Rattle.hart_turns.specs.Gives.{board_after, board_gives, board_step}
-use Rattle.hart_turns.specs.Machine.{MachineState}
+use Rattle.hart_turns.specs.Machine.{MachineState, is_running}
 use Rattle.hart_turns.specs.Turn.{Progress, after_window, all_steps, begins, closed, end_of, hart_steps, looked_after, one_step, taken_after, takes, turned, window_after}
 use Rattle.hart_turns.proofs.Allowed.{board_is_allowed_lem}
 
@@ -38,39 +43,52 @@ changed shape core now b after are left moved = record {
   devices = moved.fit;
 }
 
+pub board_step_left : (shape : Shape) (core : CoreState) (board : BoardState) (h : ℕ) → AreFit shape core board → h < length core.harts → StepStaysFit core (board_step core board h)
+board_step_left shape core board h are within =
+    let hart : Hart = hart_of core h in
+    core_laws.steps_stay_fit_lem (board_gives board h hart) core h are.harts within (board_is_allowed_lem board h hart)
+
 pub board_steps_stay_fit_lem : BoardStepsStayFit
 board_steps_stay_fit_lem shape core board h are within =
-    let hart : Hart = hart_of core h in
-    let left : StepStaysFit core (board_step core board h) = core_laws.steps_stay_fit_lem (board_gives board h hart) core h are.harts within (board_is_allowed_lem board h hart) in
+    let left : StepStaysFit core (board_step core board h) = board_step_left shape core board h are within in
     changed shape core _ board _ are left.core (accessed board are.devices (board_step core board h).access)
 
 -- ---- the steps of a turn
 
-abbrev ProgressFits : Shape → Progress → Type 0
-ProgressFits shape p = AreFit shape p.core p.board
+-- a machine within a turn is well formed, and what was out of debug mode at its start is so still
+pub record ProgressFits (shape : Shape) (start : CoreState) (p : Progress) : Type 0 where
+  pub are : AreFit shape p.core p.board
+  pub outside : (k : ℕ) → is_in_debug (hart_of start k) ≡ false → is_in_debug (hart_of p.core k) ≡ false
 
-one_fits : (shape : Shape) (h : ℕ) (p : Progress) → h < shape.harts → ProgressFits shape p → ProgressFits shape (one_step h p)
+one_fits : (shape : Shape) (start : CoreState) (h : ℕ) (p : Progress) → h < shape.harts → ProgressFits shape start p → ProgressFits shape start (one_step h p)
 unfolding one_step
-one_fits shape h p within are = board_steps_stay_fit_lem shape p.core p.board h are (subst (λ (n : ℕ). h < n) (sym are.parts.harts) within)
+one_fits shape start h p within fits =
+    let inside : h < length p.core.harts = subst (λ (n : ℕ). h < n) (sym fits.are.parts.harts) within in
+    let left : StepStaysFit p.core (board_step p.core p.board h) = board_step_left shape p.core p.board h fits.are inside in
+    record { are = board_steps_stay_fit_lem shape p.core p.board h fits.are inside; outside = λ k out. left.core.outside k (fits.outside k out) }
 
-hart_fits : (shape : Shape) (h n : ℕ) (p : Progress) → h < shape.harts → ProgressFits shape p → ProgressFits shape (hart_steps h n p)
+hart_fits : (shape : Shape) (start : CoreState) (h n : ℕ) (p : Progress) → h < shape.harts → ProgressFits shape start p → ProgressFits shape start (hart_steps h n p)
 unfolding hart_steps
-hart_fits shape h zero p within are = are
-hart_fits shape h (suc n) p within are = one_fits shape h (hart_steps h n p) within (hart_fits shape h n p within are)
+hart_fits shape start h zero p within fits = fits
+hart_fits shape start h (suc n) p within fits = one_fits shape start h (hart_steps h n p) within (hart_fits shape start h n p within fits)
 
-all_fit : (shape : Shape) (h n : ℕ) (p : Progress) → h ≤ shape.harts → ProgressFits shape p → ProgressFits shape (all_steps h n p)
+pub all_fit : (shape : Shape) (start : CoreState) (h n : ℕ) (p : Progress) → h ≤ shape.harts → ProgressFits shape start p → ProgressFits shape start (all_steps h n p)
 unfolding all_steps
-all_fit shape zero n p most are = are
-all_fit shape (suc h) n p most are = hart_fits shape h n (all_steps h n p) (omega (arith, most)) (all_fit shape h n p (omega (arith, most)) are)
+all_fit shape start zero n p most fits = fits
+all_fit shape start (suc h) n p most fits = hart_fits shape start h n (all_steps h n p) (omega (arith, most)) (all_fit shape start h n p (omega (arith, most)) fits)
 
 -- ---- the window
 
-window_fits : (shape : Shape) (tohost : ℕ) (says : HostSays) (p : Progress) → ProgressFits shape p → ProgressFits shape (after_window tohost says p)
-window_fits shape tohost Nothing p are = are
-window_fits shape tohost (End code) p are = are
-window_fits shape tohost (Bad word) p are = are
-window_fits shape tohost (Send byte) p are =
-    changed shape p.core (host_cleared p.core tohost) p.board p.board are (core_laws.host_stays_fit p.core tohost are.harts) (devices.same p.board are.devices)
+window_fits : (shape : Shape) (start : CoreState) (tohost : ℕ) (says : HostSays) (p : Progress) → ProgressFits shape start p → ProgressFits shape start (after_window tohost says p)
+window_fits shape start tohost Nothing p fits = fits
+window_fits shape start tohost (End code) p fits = fits
+window_fits shape start tohost (Bad word) p fits = fits
+window_fits shape start tohost (Send byte) p fits =
+    let left : StaysWellFormed p.core (host_cleared p.core tohost) = core_laws.host_stays_fit p.core tohost fits.are.harts in
+    record {
+      are = changed shape p.core (host_cleared p.core tohost) p.board p.board fits.are left (devices.same p.board fits.are.devices);
+      outside = λ k out. left.outside k (fits.outside k out);
+    }
 
 -- ---- input and time
 
@@ -93,7 +111,7 @@ whole m core board taken are below = record { shape = are.parts; core = are.hart
 pub parts_of : (m : MachineState) → IsFit m → AreFit m.shape m.core m.board
 parts_of m fit = record { parts = fit.shape; harts = fit.core; devices = fit.board }
 
-closed_fits : (m : MachineState) (offered : Option ℕ) (p : Progress) (end : TurnEnd) → IsFit m → m.taken + 1 < 2 ^ 64 → IfSome offered (λ byte. byte < 256) → ProgressFits m.shape p → IsFit (closed m offered p end)
+closed_fits : (m : MachineState) (offered : Option ℕ) (p : Progress) (end : TurnEnd) → IsFit m → m.taken + 1 < 2 ^ 64 → IfSome offered (λ byte. byte < 256) → AreFit m.shape p.core p.board → IsFit (closed m offered p end)
 closed_fits m offered p Goes fit below offers are =
     let taken : devices.Stays p.board (takes offered p.board) = takes_fit offered p.board offers are.devices in
     let later : devices.Stays (takes offered p.board) (ticked (takes offered p.board)) = devices.ticks_stay (takes offered p.board) taken.fit in
@@ -106,14 +124,65 @@ closed_fits m offered p Goes fit below offers are =
 closed_fits m offered p (Ended code) fit below offers are = whole m p.core p.board m.taken are fit.taken
 closed_fits m offered p (BadHost word) fit below offers are = whole m p.core p.board m.taken are fit.taken
 
+-- the progress of a machine's turn after its steps and the look at the window
+abbrev looked : MachineState → Progress
+looked m = looked_after m.shape.harts m.shape.slice m.shape.tohost (begins m)
+
+looked_fits : (m : MachineState) → IsFit m → ProgressFits m.shape m.core (looked m)
+looked_fits m fit =
+    let stepped : Progress = all_steps m.shape.harts m.shape.slice (begins m) in
+    let start : ProgressFits m.shape m.core (begins m) = record { are = parts_of m fit; outside = λ k out. out } in
+    window_fits m.shape m.core m.shape.tohost (window_after m.shape.harts m.shape.slice m.shape.tohost (begins m)) stepped
+    (all_fit m.shape m.core m.shape.harts m.shape.slice (begins m) (omega arith) start)
+
 pub turns_stay_fit_lem : TurnsStayFit
 unfolding turned
 turns_stay_fit_lem m offered fit below offers =
-    let says : HostSays = window_after m.shape.harts m.shape.slice m.shape.tohost (begins m) in
-    let stepped : Progress = all_steps m.shape.harts m.shape.slice (begins m) in
-    let are : ProgressFits m.shape stepped = all_fit m.shape m.shape.harts m.shape.slice (begins m) (omega arith) (parts_of m fit) in
-    closed_fits m offered (looked_after m.shape.harts m.shape.slice m.shape.tohost (begins m)) (end_of says) fit below offers
-    (window_fits m.shape m.shape.tohost says stepped are)
+    let fits = looked_fits m fit in
+    closed_fits m offered (looked m) (end_of (window_after m.shape.harts m.shape.slice m.shape.tohost (begins m))) fit below offers fits.are
+
+-- ---- debug mode
+
+reset_outside : is_in_debug (reset_hart 0 0) ≡ false
+unfolding reset_registers
+reset_outside = refl
+
+none_before : (xs : List Hart) (b : Bool) → nat_lt (position_or_len is_in_debug xs) (length xs) ≡ b → is_none (if b then Some (position_or_len is_in_debug xs) else None) ≡ true → (k : ℕ) → k < length xs → is_in_debug (get_or xs k (reset_hart 0 0)) ≡ false
+none_before xs true is none k within = absurd (cc)
+none_before xs false is none k within =
+    let all : length xs ≤ position_or_len is_in_debug xs = ltb-false (position_or_len is_in_debug xs) (length xs) is in
+    not-true _ (prefix_len_passes (λ (x : Hart). not (is_in_debug x)) xs k (reset_hart 0 0) (omega (arith, all)))
+
+-- of a core that runs every hart is out of debug mode
+outside_of : (core : CoreState) → is_none (lowest_in_debug core) ≡ true → (k : ℕ) → is_in_debug (hart_of core k) ≡ false
+outside_of core none k = elim (cases_lt k (length core.harts)) [
+  | inl within ↦ none_before core.harts (nat_lt (position_or_len is_in_debug core.harts) (length core.harts)) refl none k within
+  | inr past ↦ subst (λ (x : Hart). is_in_debug x ≡ false) (sym (get_or_past core.harts k (reset_hart 0 0) past)) reset_outside
+]
+
+none_after : (xs : List Hart) → ((k : ℕ) → is_in_debug (get_or xs k (reset_hart 0 0)) ≡ false) → (b : Bool) → nat_lt (position_or_len is_in_debug xs) (length xs) ≡ b → is_none (if b then Some (position_or_len is_in_debug xs) else None) ≡ true
+none_after xs out true is =
+    let here = out (position_or_len is_in_debug xs) in
+    let found = prefix_len_stops (λ (x : Hart). not (is_in_debug x)) xs (reset_hart 0 0) (ltb-true (position_or_len is_in_debug xs) (length xs) is) in
+    absurd (false≢true (sym found ∙ ap not here))
+none_after xs out false is = refl
+
+runs_after : (core : CoreState) → ((k : ℕ) → is_in_debug (hart_of core k) ≡ false) → is_none (lowest_in_debug core) ≡ true
+runs_after core out = none_after core.harts out (nat_lt (position_or_len is_in_debug core.harts) (length core.harts)) refl
+
+closed_runs : (m : MachineState) (offered : Option ℕ) (p : Progress) (end : TurnEnd) → is_none (lowest_in_debug p.core) ≡ true → is_running (closed m offered p end) ≡ true
+closed_runs m offered p Goes runs = runs
+closed_runs m offered p (Ended code) runs = runs
+closed_runs m offered p (BadHost word) runs = runs
+
+pub turns_stay_running_lem : TurnsStayRunning
+unfolding turned
+turns_stay_running_lem m offered fit runs =
+    let fits = looked_fits m fit in
+    closed_runs m offered (looked m) (end_of (window_after m.shape.harts m.shape.slice m.shape.tohost (begins m)))
+    (runs_after (looked m).core (λ k. fits.outside k (outside_of m.core runs k)))
+
+-- ---- beside turns
 
 pub clearing_stays_fit_lem : ClearingStaysFit
 clearing_stays_fit_lem m fit =

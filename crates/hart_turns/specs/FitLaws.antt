@@ -1,5 +1,5 @@
 -- What follows from the definitions: every step on the board, turn, boot and clearing keeps a machine well formed.
-use Rattle.std.specs.Prelude.{◌≡◌, ◌+◌, ◌%◌, ◌^◌, ◌<◌, ℕ, IfSome, List, Option, length}
+use Rattle.std.specs.Prelude.{◌≡◌, ◌+◌, ◌%◌, ◌^◌, ◌<◌, ℕ, IfSome, IsTrue, List, Option, length}
 use Rattle.sim_config.specs.Ranges.{IsShape}
 use Rattle.sim_config.specs.declared.values.Shape.{Shape}
 use Rattle.board_bus.specs.Board.{BoardState, IsFit as IsFitBoard}
@@ -8,7 +8,7 @@ use Rattle.hart_step.specs.Harts.{CoreState}
 use Rattle.hart_turns.specs.Boot.{booted, machine_at}
 use Rattle.hart_turns.specs.Fit.{IsFit}
 use Rattle.hart_turns.specs.Gives.{board_after, board_step}
-use Rattle.hart_turns.specs.Machine.{FitsShape, MachineState, cleared, reset_machine}
+use Rattle.hart_turns.specs.Machine.{FitsShape, MachineState, cleared, is_running, reset_machine}
 use Rattle.hart_turns.specs.Turn.{turned}
 
 -- a core and a board fit a shape, and each is well formed
@@ -28,7 +28,12 @@ abbrev pub TurnsStayFit : Type 0
 TurnsStayFit = (m : MachineState) (offered : Option ℕ) →
     IsFit m → m.taken + 1 < 2 ^ 64 → IfSome offered (λ byte. byte < 256) → IsFit (turned m offered).machine
 
--- and a boot, wherever it has come to
+-- and it leaves a machine running that was: no hart enters debug mode
+abbrev pub TurnsStayRunning : Type 0
+TurnsStayRunning = (m : MachineState) (offered : Option ℕ) →
+    IsFit m → IsTrue (is_running m) → IsTrue (is_running (turned m offered).machine)
+
+-- so does a boot keep a machine well formed, wherever it has come to
 abbrev pub BootsStayFit : Type 0
 BootsStayFit = (m : MachineState) → IsFit m → IsFit (machine_at m (booted m).left)
 
