@@ -1,6 +1,6 @@
 // The buffer of one line, and the parts of lines that are written into it.
 
-ghost use Rattle.std.specs.Prelude.{◌≡◌, ◌+◌, ◌<◌, ◌≤◌, ◌∷◌, ◌++◌, [], length};
+ghost use Rattle.std.specs.Prelude.{◌≡◌, ◌+◌, ◌<◌, ◌≤◌, ◌∷◌, ◌++◌, [], length, nat_lt, if◌then◌else◌};
 ghost use Rattle.commit_log.specs.Spelling.{hex, hex_digit, number, word};
 
 use std::marker::Model;
@@ -44,10 +44,23 @@ impl LineBuf {
     }
 
     /// Leaves an empty line.
-    pub(crate) fn empty(&mut self)
+    pub fn clear(&mut self)
         ensures { self.new ≡ [] }
     {
         self.len = 0;
+    }
+
+    /// Appends a byte; false exactly where 255 bytes stand, and then nothing changes.
+    pub fn push(&mut self, b: u8) -> bool
+        ensures room { result ≡ nat_lt (length self.old) 255 }
+        ensures value { self.new ≡ (if nat_lt (length self.old) 255 then self.old ++ b ∷ [] else self.old) }
+    {
+        if self.len < 255 {
+            self.put(b);
+            true
+        } else {
+            false
+        }
     }
 
     /// Appends a character.

@@ -651,3 +651,15 @@ fn a_line_that_is_no_spelling_has_its_column(rt: HostRuntime) {
     assert_eq!(rt; read(b"I 0 7\n"), Err(LineFault { column: 5 }));
     one_spelling();
 }
+
+#[test]
+fn a_line_takes_255_bytes(rt: HostRuntime) {
+    let mut buf = LineBuf::new();
+    for place in 0..257 {
+        let taken = buf.push(b'C');
+        assert_eq!(rt; taken, place < 255, "at {place}");
+    }
+    assert_eq!(rt; buf.bytes(), [b'C'; 255].as_slice());
+    buf.clear();
+    assert_eq!(rt; buf.bytes().len(), 0);
+}

@@ -95,7 +95,7 @@ pub fn write(e: &Event, buf: &mut LineBuf)
     ensures value { buf.new ≡ line e.now }
     ensures short { length buf.new ≤ 131 }
 {
-    buf.empty();
+    buf.clear();
     match *e {
         Event::Commit {
             hart,
