@@ -1,7 +1,7 @@
-//! Judges the commit stream of another core. A judge makes each step again on a core of its own, by the answers that
-//! the record itself shows, and gives the longest prefix of the stream whose records are all allowed.
-//! `specs/Records.antt` says which records are, and `specs/Verdicts.antt` defines the verdict on a stream, however it
-//! is cut into pieces. Nothing here takes memory.
+//! Judges the commit stream of another core. A judge makes each step again on a core of its own, by the
+//! answers that the record itself shows, and gives the longest prefix of the stream whose records are all
+//! allowed. `specs/Records.antt` says which records are, and `specs/Verdicts.antt` defines the verdict on a
+//! stream, however it is cut into pieces. Nothing here takes memory.
 #![tactic(auto)]
 
 mod fields;
@@ -10,6 +10,12 @@ mod laws;
 mod line;
 mod record;
 mod same;
+#[cfg(test)]
+mod tests;
+#[cfg(test)]
+mod tests_records;
+#[cfg(test)]
+mod tests_streams;
 mod told;
 mod verdict;
 
