@@ -1,0 +1,229 @@
+-- The deeds of the device block, one after another.
+use Rattle.std.proofs.Common.{◌≡◌, ℕ, ◌+◌, ◌*◌, ◌%◌, ◌^◌, ◌<◌, ◌≤◌, ⊎_elim, Bool, true, false, cond, List, [], ◌∷◌, ◌++◌, length, refl, sym, ap, ◌∙◌, arith, subst, add_assoc, length-append, eq-eqb, ◌==◌}
+use Rattle.std.specs.Prelude.{All, ℤ, pos, None, slice_set, slice_index}
+use Rattle.std.proofs.lemmas.Bool.{cases_eq, ne_eqb, eqb-true}
+use Rattle.std.proofs.lemmas.Int.{ints}
+use Rattle.std.proofs.lemmas.List.{append-nil, get_or-set_same, get_or-set_other, length-set, set-set, set-get_or}
+use Rattle.std.proofs.lemmas.List.Elements.{All-set}
+use Rattle.rv_alu.specs.Bits.{low_bytes}
+use Rattle.rv_decode.specs.declared.Insn.{Insn}
+use Rattle.csr_file.specs.declared.registers.Registers.{Registers}
+use Rattle.guest_ram.specs.Bytes.{base}
+use Rattle.board_bus.specs.Board.{BoardState, after_load, sent, stored}
+use Rattle.board_bus.specs.Listed.{is_listed}
+use Rattle.hart_step.specs.declared.hart.Hart.{Hart}
+use Rattle.hart_step.specs.Harts.{hart_of, register, reset_hart}
+use Rattle.hart_step.specs.Memory.{rom_base}
+use Rattle.hart_step.specs.Effects.{at_pc, offset_by, pc_after, with_write}
+use Rattle.hart_step.specs.Step.{memory_of}
+use Rattle.hart_turns.specs.Gives.{board_device}
+use Rattle.hart_turns.specs.Boot.{Booting}
+use Rattle.rom_gen.specs.Items.{AllSpelled, Put, Store, Load, Spelled, Spelling, StandAt, Width, all_do, does, extended, load, load_insn, loads, size_of, store, store_insn, stores, upper, word_count}
+use Rattle.rom_gen.specs.Wants.{is_short, is_small, pool, put_insns, short_values}
+use Rattle.rom_gen.specs.Deeds.{Deed, Aim, Save, Again, Read, IsReached, IsSound, Known, Runs, all_deed_values, board_after_deed, deed_items, deed_values, known_after, known_all, knows, placed_deeds}
+use Rattle.rom_gen.proofs.Blocks.{nothing_lost}
+use Rattle.rom_gen.proofs.ItemSteps.{put_is, stand_first, stand_second}
+use Rattle.rom_gen.proofs.Placed.{pool_append, pool_length, spelled_append}
+use Rattle.rom_gen.proofs.SecondLayout.{put_spelled}
+
+-- a hart at work in a block
+pub record WorksHart (hart : Hart) (block : ℕ) (known : Known) (csrs : Registers) : Type 0 where
+  pub count : length hart.x ≡ 32
+  pub nought : register hart 0 ≡ 0
+  pub one : register hart 1 ≡ rom_base + block
+  pub has : (r : ℕ) → 1 < r → r < 8 → register hart r ≡ known r
+  pub csrs_are : hart.csrs ≡ csrs
+  pub none : hart.reservation ≡ None
+
+pub record Works (b : Booting) (h block : ℕ) (known : Known) (csrs : Registers) : Type 0 where
+  pub inside : h < length b.core.harts
+  pub hart : WorksHart (hart_of b.core h) block known csrs
+  pub free : All (λ (x : Hart). x.reservation ≡ None) b.core.harts
+
+-- hart h becomes another n steps later, and the devices others
+abbrev pub moved : ℕ → ℕ → Hart → BoardState → Booting → Booting
+moved h n hart board b = record { core = record b.core { harts = slice_set b.core.harts h hart }; board = board; console = b.console; steps = b.steps + n }
+
+pub record Did (b : Booting) (h block : ℕ) (items : List Spelling) (known : Known) (csrs : Registers) (board : BoardState) : Type 0 where
+  pub hart : Hart
+  pub spelled : AllSpelled h block items b
+  pub is : all_do h items b ≡ moved h (word_count items) hart board b
+  pub works : Works (moved h (word_count items) hart board b) h block known csrs
+
+pub moved_again : (h n m : ℕ) (first second : Hart) (one two : BoardState) (b : Booting) → moved h m second two (moved h n first one b) ≡ moved h (n + m) second two b
+moved_again h n m first second one two b =
+    ap (λ hs. record { core = record b.core { harts = hs }; board = two; console = b.console; steps = b.steps + n + m }) (set-set b.core.harts h first second)
+    ∙ ap (λ k. record { core = record b.core { harts = slice_set b.core.harts h second }; board = two; console = b.console; steps = k }) (add_assoc b.steps n m)
+
+works_moved : (b : Booting) (h n block : ℕ) (known known' : Known) (csrs : Registers) (hart : Hart) (board : BoardState) → Works b h block known csrs → WorksHart hart block known' csrs → Works (moved h n hart board b) h block known' csrs
+works_moved b h n block known known' csrs hart board works next = record {
+  inside = (let k = works.inside in omega (arith, length-set b.core.harts h hart));
+  hart = subst (λ x. WorksHart x block known' csrs) (sym (get_or-set_same b.core.harts h hart (reset_hart 0 0) works.inside)) next;
+  free = All-set (λ (x : Hart). x.reservation ≡ None) b.core.harts h hart next.none works.free;
+}
+
+-- ---- one item
+
+has_set : (xs : List ℕ) (r v : ℕ) (known : Known) → length xs ≡ 32 → r < 32 → ((q : ℕ) → 1 < q → q < 8 → slice_index xs q ≡ known q) → (q : ℕ) → 1 < q → q < 8 → slice_index (slice_set xs r v) q ≡ knows r v known q
+has_set xs r v known count r_fits has q low high = ⊎_elim
+    (λ e. ap (slice_index (slice_set xs r v)) e ∙ get_or-set_same xs r v 0 (omega arith) ∙ ap (λ b. cond b v (known q)) (sym (eq-eqb q r e)))
+    (λ n. get_or-set_other xs r q v 0 n ∙ has q low high ∙ ap (λ b. cond b v (known q)) (sym (ne_eqb q r n)))
+    (cases_eq q r)
+
+pub put_works : (hart : Hart) (block r v next : ℕ) (known : Known) (csrs : Registers) → 1 < r → r < 32 → WorksHart hart block known csrs → WorksHart (with_write hart r v next) block (knows r v known) csrs
+put_works hart block r v next known csrs some r_fits works = subst (λ x. WorksHart x block (knows r v known) csrs) (sym (put_is hart r v next (omega arith))) (record {
+  count = length-set hart.x r v ∙ works.count;
+  nought = get_or-set_other hart.x r 0 v 0 (omega arith) ∙ works.nought;
+  one = get_or-set_other hart.x r 1 v 0 (omega arith) ∙ works.one;
+  has = has_set hart.x r v known works.count r_fits works.has;
+  csrs_are = works.csrs_are;
+  none = works.none;
+})
+
+at_works : (hart : Hart) (block next : ℕ) (known : Known) (csrs : Registers) → WorksHart hart block known csrs → WorksHart (at_pc hart next) block known csrs
+at_works hart block next known csrs works = record { count = works.count; nought = works.nought; one = works.one; has = works.has; csrs_are = works.csrs_are; none = works.none }
+
+put_does : (b : Booting) (h block r v : ℕ) (insns : List Insn) (known : Known) (csrs : Registers) → Works b h block known csrs → 1 < r → r < 32 → Spelled (length b.core.harts) (memory_of b.core) (hart_of b.core h) block (Put r v) insns → Did b h block (record { item = Put r v; insns = insns } ∷ []) (knows r v known) csrs b.board
+put_does b h block r v insns known csrs works some r_fits spelled =
+    let n : ℕ = length insns in
+    let next : Hart = with_write (hart_of b.core h) r v (pc_after (hart_of b.core h) (4 * n)) in
+    let e : n ≡ n + 0 = omega arith in
+    record {
+      hart = next;
+      spelled = (spelled, tt);
+      is = ap (λ k. moved h k next b.board b) e;
+      works = works_moved b h (n + 0) block known (knows r v known) csrs next b.board works (put_works (hart_of b.core h) block r v _ known csrs some r_fits works.hart);
+    }
+
+reaches : {n : ℕ} {known : Known} {w : Width} {by : ℕ} {off : ℤ} {at : ℕ} (hart : Hart) (block : ℕ) (csrs : Registers) → WorksHart hart block known csrs → IsReached n known w by off at → offset_by (register hart by) off ≡ at
+reaches {by = by} {off = off} hart block csrs works reached = ap (λ a. offset_by a off) (works.has by reached.some reached.low) ∙ reached.place
+
+store_does : (b : Booting) (h block src v by at : ℕ) (w : Width) (off : ℤ) (known : Known) (csrs : Registers) → Works b h block known csrs → src < 32 → register (hart_of b.core h) src ≡ v → IsReached (length b.core.harts) known w by off at → sent b.core.ram b.board at (size_of w) (low_bytes (size_of w) v) ≡ [] →
+    Did b h block (record { item = Store (size_of w) src by off; insns = store_insn w by src off ∷ [] } ∷ []) known csrs (stored b.board at (size_of w) (low_bytes (size_of w) v))
+store_does b h block src v by at w off known csrs works src_fits got reached quiet =
+    let hart : Hart = hart_of b.core h in
+    let s : ℕ = size_of w in
+    let to : offset_by (register hart by) off ≡ at = reaches hart block csrs works.hart reached in
+    let next : Hart = at_pc hart (pc_after hart 4) in
+    let x : ℕ = low_bytes s v in
+    record {
+      hart = next;
+      spelled = (store w src by off src_fits (let k = reached.low in omega arith) reached.short (ap (λ a. a % s) to ∙ reached.aligned) (subst (λ a. a < base) (sym to) reached.below) (ap (λ a. is_listed (length b.core.harts) a s) to ∙ reached.listed), tt);
+      is = ap (λ q. stores h 1 q s (register hart src) next b) to
+          ∙ ap (λ y. stores h 1 at s y next b) got
+          ∙ ap (λ hs. record { core = record b.core { harts = slice_set hs h next }; board = stored b.board at s x; console = b.console ++ sent b.core.ram b.board at s x; steps = b.steps + 1 }) (nothing_lost at s b.core.harts works.free)
+          ∙ ap (λ c. record { core = record b.core { harts = slice_set b.core.harts h next }; board = stored b.board at s x; console = b.console ++ c; steps = b.steps + 1 }) quiet
+          ∙ ap (λ c. record { core = record b.core { harts = slice_set b.core.harts h next }; board = stored b.board at s x; console = c; steps = b.steps + 1 }) (append-nil b.console);
+      works = works_moved b h 1 block known known csrs next (stored b.board at s x) works (at_works hart block _ known csrs works.hart);
+    }
+
+read_does : (b : Booting) (h block by at : ℕ) (w : Width) (off : ℤ) (known : Known) (csrs : Registers) → Works b h block known csrs → IsReached (length b.core.harts) known w by off at →
+    Did b h block (record { item = Load (size_of w) 6 by off; insns = load_insn w 6 by off ∷ [] } ∷ []) (knows 6 (extended (size_of w) (board_device b.board at (size_of w))) known) csrs (after_load b.board at (size_of w))
+read_does b h block by at w off known csrs works reached =
+    let hart : Hart = hart_of b.core h in
+    let s : ℕ = size_of w in
+    let to : offset_by (register hart by) off ≡ at = reaches hart block csrs works.hart reached in
+    let v : ℕ = extended s (board_device b.board at s) in
+    let next : Hart = with_write hart 6 v (pc_after hart 4) in
+    record {
+      hart = next;
+      spelled = (load w 6 by off (omega arith) (omega arith) (let k = reached.low in omega arith) reached.short (ap (λ a. a % s) to ∙ reached.aligned) (subst (λ a. a < base) (sym to) reached.below) (ap (λ a. is_listed (length b.core.harts) a s) to ∙ reached.listed), tt);
+      is = ap (λ q. loads h 1 q s 6 hart b) to;
+      works = works_moved b h 1 block known (knows 6 v known) csrs next (after_load b.board at s) works (put_works hart block 6 v _ known csrs (omega arith) (omega arith) works.hart);
+    }
+
+-- ---- one deed
+
+pub do_append : (h : ℕ) (a c : List Spelling) (b : Booting) → all_do h (a ++ c) b ≡ all_do h c (all_do h a b)
+do_append h [] c b = refl
+do_append h (s ∷ a) c b = do_append h a c (does h (length s.insns) s.item b)
+
+pub count_append : (a c : List Spelling) → word_count (a ++ c) ≡ word_count a + word_count c
+count_append [] c = omega arith
+count_append (s ∷ a) c = let k = count_append a c in omega arith
+
+did_join : (b : Booting) (h block : ℕ) (items more : List Spelling) (known known' : Known) (csrs : Registers) (board board' : BoardState) (did : Did b h block items known csrs board) → Did (moved h (word_count items) did.hart board b) h block more known' csrs board' → Did b h block (items ++ more) known' csrs board'
+did_join b h block items more known known' csrs board board' did second =
+    let b1 : Booting = moved h (word_count items) did.hart board b in
+    let e : moved h (word_count more) second.hart board' b1 ≡ moved h (word_count (items ++ more)) second.hart board' b =
+    moved_again h (word_count items) (word_count more) did.hart second.hart board board' b ∙ ap (λ k. moved h k second.hart board' b) (sym (count_append items more)) in
+    record {
+      hart = second.hart;
+      spelled = spelled_append h block items more b did.spelled (subst (λ x. AllSpelled h block more x) (sym did.is) second.spelled);
+      is = do_append h items more b ∙ ap (all_do h more) did.is ∙ second.is ∙ e;
+      works = subst (λ x. Works x h block known' csrs) e second.works;
+    }
+
+reached_on : {n n' : ℕ} {known known' : Known} {w : Width} {by : ℕ} {off : ℤ} {at : ℕ} → n' ≡ n → known' by ≡ known by → IsReached n known w by off at → IsReached n' known' w by off at
+reached_on {w = w} {off = off} {at = at} same from reached = record {
+  some = reached.some;
+  low = reached.low;
+  other = reached.other;
+  short = reached.short;
+  place = ap (λ a. offset_by a off) from ∙ reached.place;
+  aligned = reached.aligned;
+  below = reached.below;
+  listed = ap (λ n. is_listed n at (size_of w)) same ∙ reached.listed;
+}
+
+-- where the block stands, and what of its pool
+pub record Pooled (block k : ℕ) (values : List ℕ) (rom : List ℕ) : Type 0 where
+  pub aligned : block % 8 ≡ 0
+  pub even : k % 8 ≡ 0
+  pub room : k + 8 * length values ≤ 2048
+  pub there : StandAt (pool values) (block + k) rom
+
+abbrev save_items : Bool → ℕ → Width → ℕ → ℕ → ℤ → List Spelling
+save_items c k w v by off =
+    cond c (record { item = Store (size_of w) 0 by off; insns = store_insn w by 0 off ∷ [] } ∷ [])
+    (record { item = Put 6 v; insns = put_insns k 6 v } ∷ record { item = Store (size_of w) 6 by off; insns = store_insn w by 6 off ∷ [] } ∷ [])
+
+save_does : (c : Bool) (b : Booting) (h block k v by at : ℕ) (w : Width) (off : ℤ) (known : Known) (csrs : Registers) → (v == 0) ≡ c → Works b h block known csrs → v < 2 ^ 64 → IsReached (length b.core.harts) known w by off at → sent b.core.ram b.board at (size_of w) (low_bytes (size_of w) v) ≡ [] → Pooled block k (cond c [] (short_values v)) b.core.rom →
+    Did b h block (save_items c k w v by off) (cond c known (knows 6 v known)) csrs (stored b.board at (size_of w) (low_bytes (size_of w) v))
+save_does true b h block k v by at w off known csrs zeros works fits reached quiet pooled =
+    store_does b h block 0 v by at w off known csrs works (omega arith) (let z : v ≡ 0 = eqb-true v 0 zeros in works.hart.nought ∙ sym z) reached quiet
+save_does false b h block k v by at w off known csrs zeros works fits reached quiet pooled =
+    let insns : List Insn = put_insns k 6 v in
+    let hart : Hart = hart_of b.core h in
+    let first : Did b h block (record { item = Put 6 v; insns = insns } ∷ []) (knows 6 v known) csrs b.board =
+    put_does b h block 6 v insns known csrs works (omega arith) (omega arith)
+    (put_spelled _ _ _ block k 6 v (is_small v) (is_short v) refl refl (omega arith) (omega arith) fits works.hart.one pooled.aligned pooled.even pooled.room pooled.there) in
+    let b1 : Booting = moved h (word_count (record { item = Put 6 v; insns = insns } ∷ [])) first.hart b.board b in
+    let from : knows 6 v known by ≡ known by = ap (λ x. cond x v (known by)) (ne_eqb by 6 reached.other) in
+    did_join b h block (record { item = Put 6 v; insns = insns } ∷ []) (record { item = Store (size_of w) 6 by off; insns = store_insn w by 6 off ∷ [] } ∷ []) (knows 6 v known) (knows 6 v known) csrs b.board (stored b.board at (size_of w) (low_bytes (size_of w) v)) first
+    (store_does b1 h block 6 v by at w off (knows 6 v known) csrs first.works (omega arith) (first.works.hart.has 6 (omega arith) (omega arith)) (reached_on (length-set b.core.harts h first.hart) from reached) quiet)
+
+deed_does : (b : Booting) (h block k : ℕ) (d : Deed) (known : Known) (csrs : Registers) → Works b h block known csrs → IsSound (length b.core.harts) b.core.ram known b.board d → Pooled block k (deed_values d) b.core.rom → Did b h block (deed_items k d) (known_after b.board d known) csrs (board_after_deed d b.board)
+deed_does b h block k (Aim r v) known csrs works sound pooled =
+    put_does b h block r v (Insn.Lui r (pos v) ∷ []) known csrs works sound.0 (let e = sound.1 in omega arith)
+    (upper r v (pos v) (let e = sound.0 in omega arith) (let e = sound.1 in omega arith) (let e = sound.2 in (omega (arith, ints), omega (arith, ints))) (let e = sound.3 in omega arith) (let e = sound.2 in omega arith))
+deed_does b h block k (Save w v by off at) known csrs works sound pooled = save_does (v == 0) b h block k v by at w off known csrs refl works sound.0 sound.1 sound.2 pooled
+deed_does b h block k (Again w v by off at) known csrs works sound pooled = store_does b h block 6 v by at w off known csrs works (omega arith) (works.hart.has 6 (omega arith) (omega arith) ∙ sound.0) sound.1 sound.2
+deed_does b h block k (Read w by off at) known csrs works sound pooled = read_does b h block by at w off known csrs works sound
+
+-- ---- all deeds
+
+nothing_did : (b : Booting) (h block : ℕ) (known : Known) (csrs : Registers) → Works b h block known csrs → Did b h block [] known csrs b.board
+nothing_did b h block known csrs works =
+    let e : moved h 0 (hart_of b.core h) b.board b ≡ b =
+    ap (λ hs. record { core = record b.core { harts = hs }; board = b.board; console = b.console; steps = b.steps + 0 }) (set-get_or b.core.harts h (reset_hart 0 0))
+    ∙ ap (λ k. record b { steps = k }) (omega arith) in
+    record { hart = hart_of b.core h; spelled = tt; is = sym e; works = subst (λ x. Works x h block known csrs) (sym e) works }
+
+pub deeds_do : (ds : List Deed) (n : ℕ) (b : Booting) (h block k : ℕ) (known : Known) (csrs : Registers) (board : BoardState) → length b.core.harts ≡ n → Works b h block known csrs → Runs n b.core.ram known b.board ds board → Pooled block k (all_deed_values ds) b.core.rom → Did b h block (placed_deeds k ds) (known_all b.board ds known) csrs board
+deeds_do [] n b h block k known csrs board count works runs pooled = subst (λ x. Did b h block [] known csrs x) runs (nothing_did b h block known csrs works)
+deeds_do (d ∷ ds) n b h block k known csrs board count works runs pooled =
+    let us : List ℕ = deed_values d in
+    let vs : List ℕ = all_deed_values ds in
+    let sum : length (us ++ vs) ≡ length us + length vs = length-append us vs in
+    let room : k + 8 * length (us ++ vs) ≤ 2048 = pooled.room in
+    let even : k % 8 ≡ 0 = pooled.even in
+    let split : StandAt (pool us ++ pool vs) (block + k) b.core.rom = subst (λ bs. StandAt bs (block + k) b.core.rom) (pool_append us vs) pooled.there in
+    let next : ℕ = k + 8 * length us in
+    let place : block + k + length (pool us) ≡ block + next = omega (arith, pool_length us) in
+    let first : Did b h block (deed_items k d) (known_after b.board d known) csrs (board_after_deed d b.board) =
+    deed_does b h block k d known csrs works (subst (λ m. IsSound m b.core.ram known b.board d) (sym count) runs.0) (record { aligned = pooled.aligned; even = even; room = omega arith; there = stand_first (pool us) (pool vs) (block + k) b.core.rom split }) in
+    let b1 : Booting = moved h (word_count (deed_items k d)) first.hart (board_after_deed d b.board) b in
+    did_join b h block (deed_items k d) (placed_deeds next ds) (known_after b.board d known) (known_all b.board (d ∷ ds) known) csrs (board_after_deed d b.board) board first
+    (deeds_do ds n b1 h block next (known_after b.board d known) csrs board (length-set b.core.harts h first.hart ∙ count) first.works runs.1
+    (record { aligned = pooled.aligned; even = omega arith; room = omega arith; there = subst (λ q. StandAt (pool vs) q b.core.rom) place (stand_second (pool us) (pool vs) (block + k) b.core.rom split) }))

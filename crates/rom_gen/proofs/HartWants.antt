@@ -1,0 +1,130 @@
+-- What the wants of a hart leave of one that comes out of reset in debug mode.
+use Rattle.std.proofs.Common.{◌≡◌, ◌≢◌, ℕ, zero, suc, ◌+◌, ◌*◌, ◌<◌, ◌≤◌, ⊎_elim, List, [], ◌∷◌, ◌++◌, length, refl, sym, ap, ◌∙◌, arith}
+use Rattle.std.specs.Prelude.{Some, slice_index, slice_set}
+use Rattle.std.proofs.Math.ListN.{set}
+use Rattle.std.proofs.lemmas.Bool.{cases_eq, cases_lt}
+use Rattle.std.proofs.lemmas.List.{get_or-set_same, get_or-set_other, length-set, same_lists, get_or_default}
+use Rattle.rv_alu.specs.Modes.{level}
+use Rattle.csr_file.specs.Bits.{dcsr_fixed}
+use Rattle.csr_file.specs.Kept.{IsFit, kept_value, reset_debug_registers}
+use Rattle.csr_file.specs.Legal.{Slot, kept_slots, legal}
+use Rattle.csr_file.specs.Numbers.{csr_dcsr, csr_dpc}
+use Rattle.csr_file.specs.Write.{written}
+use Rattle.csr_file.specs.declared.registers.Registers.{Registers}
+use Rattle.hart_step.specs.declared.hart.Hart.{Hart}
+use Rattle.rom_gen.specs.Items.{Spelling}
+use Rattle.rom_gen.specs.HartWants.{controls, numbered, slot_wants}
+use Rattle.hart_step.specs.DebugReset.{debug_registers}
+use Rattle.rom_gen.specs.Restoring.{put_back}
+use Rattle.rom_gen.specs.Wants.{Want, Reg, Control, AllGood, IsLayout, Leaves, all_csrs, hart_all, placed}
+use Rattle.rom_gen.proofs.Placed.{count_kept, hart_append}
+use Rattle.rom_gen.proofs.Registers.{debug_back, kept_back}
+
+pub csrs_append : (a c : List Want) (r : Registers) → all_csrs (a ++ c) r ≡ all_csrs c (all_csrs a r)
+csrs_append [] c r = refl
+csrs_append (Reg i v ∷ a) c r = csrs_append a c r
+csrs_append (Control number v ∷ a) c r = csrs_append a c (written number v r)
+
+slots_are : (t r : Registers) (slots : List Slot) → all_csrs (slot_wants t slots) r ≡ put_back t slots r
+unfolding slot_wants
+slots_are t r [] = refl
+slots_are t r (s ∷ slots) = slots_are t (written s.number (kept_value s.number t) r) slots
+
+-- registers_restored, whatever the spelling
+pub controls_restore : (t : Hart) → IsFit t.csrs → ((old : ℕ) → legal csr_dpc old t.pc ≡ t.pc) → all_csrs (controls t) (debug_registers t.csrs.hart) ≡ record t.csrs { debug = Some (record reset_debug_registers { dcsr = dcsr_fixed + level t.mode; dpc = t.pc }) }
+controls_restore t fit even =
+    let last : List Want = Control csr_dcsr (dcsr_fixed + level t.mode) ∷ Control csr_dpc t.pc ∷ [] in
+    csrs_append (slot_wants t.csrs kept_slots) last (debug_registers t.csrs.hart)
+    ∙ ap (all_csrs last) (slots_are t.csrs (debug_registers t.csrs.hart) kept_slots ∙ kept_back t.csrs fit)
+    ∙ debug_back t.csrs t.mode t.pc even
+
+-- ---- x0 to x31
+
+-- x is the same but for x2
+pub record SameBut2 (xs ys : List ℕ) : Type 0 where
+  pub count : length ys ≡ length xs
+  pub others : (j : ℕ) → j ≢ 2 → slice_index ys j ≡ slice_index xs j
+
+abbrev pub AllControl : List Want → Type 0
+AllControl [] = Unit {0}
+AllControl (Reg r v ∷ rest) = ⊥
+AllControl (Control number v ∷ rest) = AllControl rest
+
+pub controls_x : {spell : ℕ → Want → List Spelling} {values : Want → List ℕ} → IsLayout spell values → (off : ℕ) (ws : List Want) (hart : Hart) → AllControl ws → AllGood ws → length hart.x ≡ 32 → SameBut2 hart.x (hart_all (placed spell values off ws) hart).x
+controls_x layout off [] hart all good count = record { count = refl; others = λ j other. refl }
+controls_x layout off (Reg r v ∷ ws) hart all good count = absurd all
+controls_x {spell = spell} {values = values} layout off (Control number v ∷ ws) hart all good count =
+    let w : Want = Control number v in
+    let after : Hart = hart_all (spell off w) hart in
+    let leaves : Leaves w hart after = layout.leaves off w hart good.0 count in
+    let next : ℕ = off + 8 * length (values w) in
+    let rest : SameBut2 after.x (hart_all (placed spell values next ws) after).x = controls_x layout next ws after all good.1 (leaves.x.0 ∙ count) in
+    let is : (hart_all (spell off w ++ placed spell values next ws) hart).x ≡ (hart_all (placed spell values next ws) after).x = ap (λ (x : Hart). x.x) (hart_append (spell off w) (placed spell values next ws) hart) in
+    record {
+      count = ap length is ∙ rest.count ∙ leaves.x.0;
+      others = λ j other. ap (λ xs. slice_index xs j) is ∙ rest.others j other ∙ leaves.x.1 j other;
+    }
+
+-- the registers that are put one after another
+unfoldable pub put_x : ℕ → ℕ → List ℕ → List ℕ → List ℕ
+put_x zero i ts xs = xs
+put_x (suc n) i ts xs = put_x n (suc i) ts (slice_set xs i (slice_index ts i))
+
+pub numbered_x : {spell : ℕ → Want → List Spelling} {values : Want → List ℕ} → IsLayout spell values → (off n i : ℕ) (ts : List ℕ) (hart : Hart) → AllGood (numbered n i ts) → length hart.x ≡ 32 → (hart_all (placed spell values off (numbered n i ts)) hart).x ≡ put_x n i ts hart.x
+unfolding numbered put_x
+numbered_x layout off zero i ts hart good count = refl
+numbered_x {spell = spell} {values = values} layout off (suc n) i ts hart good count =
+    let w : Want = Reg i (slice_index ts i) in
+    let after : Hart = hart_all (spell off w) hart in
+    let leaves : Leaves w hart after = layout.leaves off w hart good.0 count in
+    let next : ℕ = off + 8 * length (values w) in
+    ap (λ (x : Hart). x.x) (hart_append (spell off w) (placed spell values next (numbered n (suc i) ts)) hart)
+    ∙ numbered_x layout next n (suc i) ts after good.1 (count_kept w hart after leaves ∙ count)
+    ∙ ap (put_x n (suc i) ts) leaves.x
+
+pub put_below : (n i j : ℕ) (ts xs : List ℕ) → j < i → slice_index (put_x n i ts xs) j ≡ slice_index xs j
+unfolding put_x
+put_below zero i j ts xs below = refl
+put_below (suc n) i j ts xs below = put_below n (suc i) j ts (slice_set xs i (slice_index ts i)) (omega arith) ∙ get_or-set_other xs i j (slice_index ts i) 0 (omega arith)
+
+pub put_at : (n i j : ℕ) (ts xs : List ℕ) → i ≤ j → j < i + n → i + n ≤ length xs → slice_index (put_x n i ts xs) j ≡ slice_index ts j
+unfolding put_x
+put_at zero i j ts xs low high inside = absurd (omega arith)
+put_at (suc n) i j ts xs low high inside =
+    let v : ℕ = slice_index ts i in
+    let ys : List ℕ = slice_set xs i v in
+    let m : length ys ≡ length xs = length-set xs i v in
+    ⊎_elim
+    (λ e. ap (λ z. slice_index (put_x n (suc i) ts ys) z) e ∙ put_below n (suc i) i ts ys (omega arith) ∙ get_or-set_same xs i v 0 (omega arith) ∙ ap (slice_index ts) (sym e))
+    (λ e. put_at n (suc i) j ts ys (omega arith) (omega arith) (omega arith))
+    (cases_eq j i)
+
+pub put_count : (n i : ℕ) (ts xs : List ℕ) → length (put_x n i ts xs) ≡ length xs
+unfolding put_x
+put_count zero i ts xs = refl
+put_count (suc n) i ts xs = put_count n (suc i) ts (slice_set xs i (slice_index ts i)) ∙ length-set xs i (slice_index ts i)
+
+same_x : (ts ys : List ℕ) → length ts ≡ 32 → length ys ≡ 32 → slice_index ys 0 ≡ slice_index ts 0 → ((j : ℕ) → 2 ≤ j → j < 32 → slice_index ys j ≡ slice_index ts j) → slice_set ys 1 (slice_index ts 1) ≡ ts
+same_x ts ys lt ly first rest =
+    let zs : List ℕ = slice_set ys 1 (slice_index ts 1) in
+    let lz : length zs ≡ 32 = length-set ys 1 (slice_index ts 1) ∙ ly in
+    let other : (j : ℕ) → j < 32 → j ≢ 1 → slice_index ys j ≡ slice_index ts j = λ j k n. ⊎_elim
+    (λ l. let z : j ≡ 0 = omega arith in ap (slice_index ys) z ∙ first ∙ ap (slice_index ts) (sym z))
+    (λ l. rest j l k)
+    (cases_lt j 2) in
+    let same : (j : ℕ) → j < 32 → slice_index zs j ≡ slice_index ts j = λ j k. ⊎_elim
+    (λ e. ap (slice_index zs) e ∙ get_or-set_same ys 1 (slice_index ts 1) 0 (omega arith) ∙ ap (slice_index ts) (sym e))
+    (λ n. get_or-set_other ys 1 j (slice_index ts 1) 0 n ∙ other j k n)
+    (cases_eq j 1) in
+    same_lists zs ts (lz ∙ sym lt) (λ j d k. get_or_default zs j d 0 k ∙ same j (omega arith) ∙ get_or_default ts j 0 d (omega arith))
+
+-- x2 to x31 and then x1, over what the controls left
+pub x_restored : (ts xs ys : List ℕ) → length ts ≡ 32 → length xs ≡ 32 → slice_index ts 0 ≡ 0 → slice_index xs 0 ≡ 0 → SameBut2 xs ys → slice_set (put_x 30 2 ts ys) 1 (slice_index ts 1) ≡ ts
+x_restored ts xs ys lt lx t0 x0 same =
+    let ly : length ys ≡ 32 = same.count ∙ lx in
+    same_x ts (put_x 30 2 ts ys) lt (put_count 30 2 ts ys ∙ ly) (put_below 30 2 0 ts ys (omega arith) ∙ same.others 0 (omega arith) ∙ x0 ∙ sym t0) (λ j a b. put_at 30 2 j ts ys a b (omega arith))
+
+pub numbered_csrs : (n i : ℕ) (ts : List ℕ) (r : Registers) → all_csrs (numbered n i ts) r ≡ r
+unfolding numbered
+numbered_csrs zero i ts r = refl
+numbered_csrs (suc n) i ts r = numbered_csrs n (suc i) ts r

@@ -1,0 +1,250 @@
+-- The steps of a hart at the spelling of an item do what the item does.
+use Rattle.std.proofs.Common.{◌≡◌, ℕ, ◌+◌, ◌*◌, ◌%◌, ◌^◌, ◌<◌, ◌≤◌, ◌≢◌, true, cond, List, [], ◌∷◌, ◌++◌, length, drop, refl, sym, ap, ◌∙◌, arith, subst, append_assoc}
+use Rattle.std.specs.Prelude.{is_some, Option, Some, None, slice_set, map}
+use Rattle.csr_file.specs.Write.{written}
+use Rattle.std.proofs.lemmas.Bool.{ne_eqb}
+use Rattle.std.proofs.lemmas.List.{append-nil, set-set, get_or-set_same, get_or-set_other, length-set, drop-drop, drop_at, length-map}
+use Rattle.std.proofs.Math.ListN.{set}
+use Rattle.byteorder.specs.Endian.{little_bytes}
+use Rattle.rv_alu.specs.Arithmetic.{alu_of, modulo}
+use Rattle.rv_alu.specs.Bits.{low_bytes}
+use Rattle.rv_alu.specs.declared.BinOp.{BinOp}
+use Rattle.rv_alu.specs.declared.Mode.{Mode}
+use Rattle.rv_decode.specs.declared.Insn.{Insn}
+use Rattle.rv_decode.specs.Encode.{encoded}
+use Rattle.csr_file.specs.declared.registers.Registers.{Registers}
+use Rattle.trap_rules.specs.Interrupt.{picked}
+use Rattle.hart_step.specs.declared.event.Put.{Put as Stored}
+use Rattle.hart_step.specs.declared.hart.Hart.{Hart}
+use Rattle.hart_step.specs.Answers.{Access, Given, Loads, Stores, Untouched}
+use Rattle.hart_step.specs.Harts.{hart_of, is_in_debug, register, reset_hart}
+use Rattle.hart_step.specs.Memory.{MemoryState}
+use Rattle.hart_step.specs.Effects.{at_pc, offset_by, pc_after, with_write}
+use Rattle.hart_step.specs.Step.{after_store, hart_step, memory_of, without_reservation}
+use Rattle.hart_turns.specs.Gives.{board_gives, board_after, board_device}
+use Rattle.hart_turns.specs.Boot.{Booting, Leads, boot_hart}
+use Rattle.rom_gen.specs.Items.{Item, Put, Csr, CsrImm, Store, Go, Spelled, small, upper, pair, pooled, csr, csr_imm, store, load, go, Load, extended, size_of, Spelling, StandAt, AllSpelled, all_do, all_insns, becomes, code, does, hart_after, word_count}
+use Rattle.rom_gen.proofs.Fetch.{room}
+use Rattle.rom_gen.proofs.InDebug.{written_debugs}
+use Rattle.hart_turns.proofs.BootSteps.{leads_join}
+use Rattle.rom_gen.proofs.Joins.{Does, acted, leads_step, length-after}
+use Rattle.rom_gen.proofs.Steps.{Stands, csr_imm_step, csr_step, small_step}
+use Rattle.rom_gen.proofs.Forms.{go_step, load_step, low_step, pooled_step, store_step, upper_step}
+
+-- no interrupt is given to a hart in debug mode
+pub unpicked : (r : Registers) (mode : Mode) (live : ℕ) → is_some r.debug ≡ true → picked r mode live ≡ None
+unfolding picked
+unpicked r mode live debugs = rw debugs refl
+
+-- a hart steps as the step lemmas say, where it is the one at place h
+leads_at : (b : Booting) (h : ℕ) (hart next : Hart) (st : Option Stored) (access : Access) → h < length b.core.harts → hart_of b.core h ≡ hart → is_in_debug hart ≡ true → is_in_debug next ≡ true → ((given : Given) → given.interrupt ≡ None → Does (memory_of b.core) (hart_step given (length b.core.harts) h hart (memory_of b.core)) st next access) → Leads h 1 b (acted h st next b.core.rom access b)
+leads_at b h hart next st access inside is debugs still step =
+    let here : Does (memory_of b.core) (hart_step (board_gives b.board h (hart_of b.core h)) (length b.core.harts) h (hart_of b.core h) (memory_of b.core)) st next access =
+    subst (λ x. Does (memory_of b.core) (hart_step (board_gives b.board h x) (length b.core.harts) h x (memory_of b.core)) st next access) (sym is) (step (board_gives b.board h hart) (unpicked hart.csrs hart.mode _ debugs)) in
+    leads_step b h (hart_step (board_gives b.board h (hart_of b.core h)) (length b.core.harts) h (hart_of b.core h) (memory_of b.core)) st next access inside refl here still
+
+-- the same where the step is known under what the board gives it alone
+leads_given : (b : Booting) (h : ℕ) (hart next : Hart) (st : Option Stored) (access : Access) → h < length b.core.harts → hart_of b.core h ≡ hart → is_in_debug hart ≡ true → is_in_debug next ≡ true → Does (memory_of b.core) (hart_step (board_gives b.board h hart) (length b.core.harts) h hart (memory_of b.core)) st next access → Leads h 1 b (acted h st next b.core.rom access b)
+leads_given b h hart next st access inside is debugs still step =
+    let here : Does (memory_of b.core) (hart_step (board_gives b.board h (hart_of b.core h)) (length b.core.harts) h (hart_of b.core h) (memory_of b.core)) st next access =
+    subst (λ x. Does (memory_of b.core) (hart_step (board_gives b.board h x) (length b.core.harts) h x (memory_of b.core)) st next access) (sym is) step in
+    leads_step b h (hart_step (board_gives b.board h (hart_of b.core h)) (length b.core.harts) h (hart_of b.core h) (memory_of b.core)) st next access inside refl here still
+
+quiet_load : (b : Booting) (h at size : ℕ) (hart : Hart) → acted h None hart b.core.rom (Loads at size) b ≡ record { core = record b.core { harts = slice_set b.core.harts h hart }; board = board_after b.board (Loads at size); console = b.console; steps = b.steps + 1 }
+quiet_load b h at size hart = ap (λ c. record { core = record b.core { harts = slice_set b.core.harts h hart }; board = board_after b.board (Loads at size); console = c; steps = b.steps + 1 }) (append-nil b.console)
+
+pub quiet : (b : Booting) (h : ℕ) (hart : Hart) → acted h None hart b.core.rom Untouched b ≡ becomes h 1 hart b
+quiet b h hart = ap (λ c. record { core = record b.core { harts = slice_set b.core.harts h hart }; board = b.board; console = c; steps = b.steps + 1 }) (append-nil b.console)
+
+pub leads_quiet : (b : Booting) (h : ℕ) (hart next : Hart) → h < length b.core.harts → hart_of b.core h ≡ hart → is_in_debug hart ≡ true → is_in_debug next ≡ true → ((given : Given) → given.interrupt ≡ None → Does (memory_of b.core) (hart_step given (length b.core.harts) h hart (memory_of b.core)) None next Untouched) → Leads h 1 b (becomes h 1 next b)
+leads_quiet b h hart next inside is debugs still step = subst (λ x. Leads h 1 b x) (quiet b h next) (leads_at b h hart next None Untouched inside is debugs still step)
+
+-- ---- how a hart stands after an item
+
+pub put_is : (hart : Hart) (r v next : ℕ) → 0 < r → with_write hart r v next ≡ record hart { x = slice_set hart.x r v; pc = next }
+put_is hart r v next some = ap (λ c. record (cond c hart (record hart { x = slice_set hart.x r v })) { pc = next }) (ne_eqb r 0 (omega arith))
+
+pub stands_put : (memory : MemoryState) (hart : Hart) (p k r v : ℕ) → Stands memory hart p → 0 < r → p + k ≤ length memory.rom → Stands memory (with_write hart r v (pc_after hart k)) (p + k)
+stands_put memory hart p k r v stands some within = subst (λ x. Stands memory x (p + k)) (sym (put_is hart r v (pc_after hart k) some)) (record {
+  debugs = stands.debugs;
+  at = (let e = stands.at in let s = stands.small in omega arith);
+  nought = get_or-set_other hart.x r 0 v 0 (omega arith) ∙ stands.nought;
+  count = length-set hart.x r v ∙ stands.count;
+  small = stands.small;
+})
+
+stands_on : (memory : MemoryState) (hart : Hart) (p k : ℕ) (csrs : Registers) → Stands memory hart p → is_some csrs.debug ≡ true → p + k ≤ length memory.rom → Stands memory (record hart { csrs = csrs; pc = pc_after hart k }) (p + k)
+stands_on memory hart p k csrs stands debugs within = record {
+  debugs = debugs;
+  at = (let e = stands.at in let s = stands.small in omega arith);
+  nought = stands.nought;
+  count = stands.count;
+  small = stands.small;
+}
+
+pair_is : (hart : Hart) (r a v : ℕ) → 0 < r → with_write (with_write hart r a (pc_after hart 4)) r v (pc_after (with_write hart r a (pc_after hart 4)) 4) ≡ with_write hart r v (pc_after hart 8)
+pair_is hart r a v some =
+    let next : ((hart.pc + 4) % 2 ^ 64 + 4) % 2 ^ 64 ≡ (hart.pc + 8) % 2 ^ 64 = omega arith in
+    ap (λ (x : Hart). with_write x r v (pc_after x 4)) (put_is hart r a (pc_after hart 4) some)
+    ∙ put_is (record hart { x = slice_set hart.x r a; pc = pc_after hart 4 }) r v (((hart.pc + 4) % 2 ^ 64 + 4) % 2 ^ 64) some
+    ∙ ap (λ xs. record hart { x = xs; pc = ((hart.pc + 4) % 2 ^ 64 + 4) % 2 ^ 64 }) (set-set hart.x r a v)
+    ∙ ap (λ q. record hart { x = slice_set hart.x r v; pc = q }) next
+    ∙ sym (put_is hart r v (pc_after hart 8) some)
+
+debugs_put : (hart : Hart) (r v next : ℕ) → 0 < r → is_in_debug hart ≡ true → is_in_debug (with_write hart r v next) ≡ true
+debugs_put hart r v next some debugs = ap is_in_debug (put_is hart r v next some) ∙ debugs
+
+becomes_twice : (b : Booting) (h : ℕ) (first second : Hart) → becomes h 1 second (becomes h 1 first b) ≡ becomes h 2 second b
+becomes_twice b h first second =
+    ap (λ hs. record b { core = record b.core { harts = hs }; steps = b.steps + 1 + 1 }) (set-set b.core.harts h first second)
+    ∙ ap (λ n. record b { core = record b.core { harts = slice_set b.core.harts h second }; steps = n }) (omega arith)
+
+-- ---- the law
+
+pub item_steps : (b : Booting) (h p block : ℕ) (item : Item) (insns : List Insn) → h < length b.core.harts → Stands (memory_of b.core) (hart_of b.core h) p → Spelled (length b.core.harts) (memory_of b.core) (hart_of b.core h) block item insns → StandAt (code insns) p b.core.rom → Leads h (length insns) b (does h (length insns) item b)
+item_steps b h p block _ _ inside stands (small r v imm some r_fits is_signed is) there =
+    let hart : Hart = hart_of b.core h in
+    leads_quiet b h hart (with_write hart r v (pc_after hart 4)) inside refl stands.debugs (debugs_put hart r v (pc_after hart 4) some stands.debugs)
+    (λ given none. small_step given (length b.core.harts) h hart (memory_of b.core) p r v imm there.0 stands none r_fits is_signed is there.1)
+item_steps b h p block _ _ inside stands (upper r v imm some r_fits is_signed multiple is) there =
+    let hart : Hart = hart_of b.core h in
+    leads_quiet b h hart (with_write hart r v (pc_after hart 4)) inside refl stands.debugs (debugs_put hart r v (pc_after hart 4) some stands.debugs)
+    (λ given none. upper_step given (length b.core.harts) h hart (memory_of b.core) p r v imm there.0 stands none r_fits is_signed multiple is there.1)
+item_steps b h p block _ _ inside stands (pair r v high low some r_fits high_fits multiple low_fits is) there =
+    let hart : Hart = hart_of b.core h in
+    let a : ℕ = modulo 64 high in
+    let first : Hart = with_write hart r a (pc_after hart 4) in
+    let second : Hart = with_write first r v (pc_after first 4) in
+    let b1 : Booting = becomes h 1 first b in
+    let rest : List ℕ = little_bytes 4 (encoded (Insn.Addiw r r low)) ++ there.0 in
+    let within : p + 4 ≤ length b.core.rom = omega (arith, room p (little_bytes 4 (encoded (Insn.Lui r high))) rest b.core.rom there.1 (omega arith)) in
+    let on : Stands (memory_of b.core) first (p + 4) = stands_put (memory_of b.core) hart p 4 r a stands some within in
+    let below : drop (p + 4) b.core.rom ≡ rest = sym (drop-drop 4 p b.core.rom) ∙ ap (drop 4) there.1 in
+    let count : r < length hart.x = omega (arith, stands.count) in
+    let got : register first r ≡ a = ap (λ (x : Hart). register x r) (put_is hart r a (pc_after hart 4) some) ∙ get_or-set_same hart.x r a 0 count in
+    let one : Leads h 1 b b1 = leads_quiet b h hart first inside refl stands.debugs on.debugs
+    (λ given none. upper_step given (length b.core.harts) h hart (memory_of b.core) p r a high rest stands none r_fits high_fits multiple refl there.1) in
+    let inside1 : h < length b1.core.harts = omega (arith, length-set b.core.harts h first) in
+    let two : Leads h 1 b1 (becomes h 1 second b1) = leads_quiet b1 h first second inside1 (get_or-set_same b.core.harts h first (reset_hart 0 0) inside) on.debugs (debugs_put first r v (pc_after first 4) some on.debugs)
+    (λ given none. low_step given (length b1.core.harts) h first (memory_of b.core) (p + 4) r v low there.0 on none r_fits low_fits (ap (λ x. alu_of BinOp.Addw x (modulo 64 low)) got ∙ is) below) in
+    subst (λ x. Leads h 2 b x) (becomes_twice b h first second ∙ ap (λ x. becomes h 2 x b) (pair_is hart r a v some)) (leads_join h 1 1 b b1 (becomes h 1 second b1) one two)
+item_steps b h p block _ _ inside stands (pooled r v off some r_fits fits near aligned at pool) there =
+    let hart : Hart = hart_of b.core h in
+    leads_quiet b h hart (with_write hart r v (pc_after hart 4)) inside refl stands.debugs (debugs_put hart r v (pc_after hart 4) some stands.debugs)
+    (λ given none. pooled_step given (length b.core.harts) h hart (memory_of b.core) p r v block off there.0 stands none r_fits fits aligned near at pool there.1)
+item_steps b h p block _ _ inside stands (csr num r r_fits num_fits writable) there =
+    let hart : Hart = hart_of b.core h in
+    leads_quiet b h hart (hart_after 1 (Csr num r) hart) inside refl stands.debugs (written_debugs num (register hart r) hart.csrs stands.debugs)
+    (λ given none. csr_step given (length b.core.harts) h hart (memory_of b.core) p num r there.0 stands none r_fits num_fits writable there.1)
+item_steps b h p block _ _ inside stands (csr_imm num u u_fits num_fits writable) there =
+    let hart : Hart = hart_of b.core h in
+    leads_quiet b h hart (hart_after 1 (CsrImm num u) hart) inside refl stands.debugs (written_debugs num u hart.csrs stands.debugs)
+    (λ given none. csr_imm_step given (length b.core.harts) h hart (memory_of b.core) p num u there.0 stands none u_fits num_fits writable there.1)
+item_steps b h p block _ _ inside stands (store w r at off r_fits at_fits is_signed aligned below device) there =
+    let hart : Hart = hart_of b.core h in
+    let va : ℕ = offset_by (register hart at) off in
+    let s : ℕ = size_of w in
+    leads_at b h hart (at_pc hart (pc_after hart 4)) (Some (record { at = va; size = s; value = low_bytes s (register hart r) })) (Stores va s (low_bytes s (register hart r))) inside refl stands.debugs stands.debugs
+    (λ given none. store_step w given (length b.core.harts) h hart (memory_of b.core) p r at off there.0 stands none r_fits at_fits is_signed aligned below device there.1)
+item_steps b h p block _ _ inside stands (load w r at off some r_fits at_fits is_signed aligned below device) there =
+    let hart : Hart = hart_of b.core h in
+    let va : ℕ = offset_by (register hart at) off in
+    let s : ℕ = size_of w in
+    let next : Hart = with_write hart r (extended s (board_device b.board va s)) (pc_after hart 4) in
+    subst (λ x. Leads h 1 b x) (quiet_load b h va s next)
+    (leads_given b h hart next None (Loads va s) inside refl stands.debugs (debugs_put hart r _ (pc_after hart 4) some stands.debugs)
+    (load_step w (board_gives b.board h hart) (length b.core.harts) h hart (memory_of b.core) p r at off there.0 stands (unpicked hart.csrs hart.mode _ stands.debugs) r_fits at_fits is_signed aligned below device there.1))
+item_steps b h p block _ _ inside stands (go r r_fits fits) there =
+    let hart : Hart = hart_of b.core h in
+    leads_quiet b h hart (hart_after 1 (Go r) hart) inside refl stands.debugs stands.debugs
+    (λ given none. go_step given (length b.core.harts) h hart (memory_of b.core) p r there.0 stands none r_fits fits there.1)
+
+-- ---- one item after another
+
+pub code_append : (a c : List Insn) → code (a ++ c) ≡ code a ++ code c
+code_append [] c = refl
+code_append (i ∷ a) c = ap (λ bs. little_bytes 4 (encoded i) ++ bs) (code_append a c) ∙ sym (append_assoc (little_bytes 4 (encoded i)) (code a) (code c))
+
+pub code_length : (a : List Insn) → length (code a) ≡ 4 * length a
+code_length [] = refl
+code_length (i ∷ a) = let k = code_length a in omega arith
+
+stands_becomes : (b : Booting) (h n q : ℕ) (next : Hart) → h < length b.core.harts → Stands (memory_of b.core) next q → Stands (memory_of (becomes h n next b).core) (hart_of (becomes h n next b).core h) q
+stands_becomes b h n q next inside stands = subst (λ x. Stands (memory_of b.core) x q) (sym (get_or-set_same b.core.harts h next (reset_hart 0 0) inside)) stands
+
+-- the hart stands behind an item of a block
+pub stands_after : (b : Booting) (h p block : ℕ) (item : Item) (insns : List Insn) → h < length b.core.harts → Stands (memory_of b.core) (hart_of b.core h) p → Spelled (length b.core.harts) (memory_of b.core) (hart_of b.core h) block item insns → p + 4 * length insns ≤ length b.core.rom → ((r : ℕ) → item ≢ Go r) → Stands (memory_of (does h (length insns) item b).core) (hart_of (does h (length insns) item b).core h) (p + 4 * length insns)
+stands_after b h p block _ _ inside stands (small r v imm some r_fits is_signed is) within stays = stands_becomes b h 1 (p + 4) _ inside (stands_put (memory_of b.core) (hart_of b.core h) p 4 r v stands some within)
+stands_after b h p block _ _ inside stands (upper r v imm some r_fits is_signed multiple is) within stays = stands_becomes b h 1 (p + 4) _ inside (stands_put (memory_of b.core) (hart_of b.core h) p 4 r v stands some within)
+stands_after b h p block _ _ inside stands (pair r v high low some r_fits high_fits multiple low_fits is) within stays = stands_becomes b h 2 (p + 8) _ inside (stands_put (memory_of b.core) (hart_of b.core h) p 8 r v stands some within)
+stands_after b h p block _ _ inside stands (pooled r v off some r_fits fits near aligned at pool) within stays = stands_becomes b h 1 (p + 4) _ inside (stands_put (memory_of b.core) (hart_of b.core h) p 4 r v stands some within)
+stands_after b h p block _ _ inside stands (csr num r r_fits num_fits writable) within stays = stands_becomes b h 1 (p + 4) _ inside (stands_on (memory_of b.core) (hart_of b.core h) p 4 (written num (register (hart_of b.core h) r) (hart_of b.core h).csrs) stands (written_debugs num (register (hart_of b.core h) r) (hart_of b.core h).csrs stands.debugs) within)
+stands_after b h p block _ _ inside stands (csr_imm num u u_fits num_fits writable) within stays = stands_becomes b h 1 (p + 4) _ inside (stands_on (memory_of b.core) (hart_of b.core h) p 4 (written num u (hart_of b.core h).csrs) stands (written_debugs num u (hart_of b.core h).csrs stands.debugs) within)
+stands_after b h p block _ _ inside stands (store w r at off r_fits at_fits is_signed aligned below device) within stays =
+    let hart : Hart = hart_of b.core h in
+    let put : Option Stored = Some (record { at = offset_by (register hart at) off; size = size_of w; value = low_bytes (size_of w) (register hart r) }) in
+    let harts : List Hart = after_store put b.core.harts in
+    let inside1 : h < length harts = omega (arith, length-after put b.core.harts) in
+    subst (λ x. Stands (memory_of b.core) x (p + 4)) (sym (get_or-set_same harts h (at_pc hart (pc_after hart 4)) (reset_hart 0 0) inside1)) (stands_on (memory_of b.core) hart p 4 hart.csrs stands stands.debugs within)
+stands_after b h p block _ _ inside stands (load w r at off some r_fits at_fits is_signed aligned below device) within stays =
+    stands_becomes b h 1 (p + 4) _ inside (stands_put (memory_of b.core) (hart_of b.core h) p 4 r _ stands some within)
+stands_after b h p block _ _ inside stands (go r r_fits fits) within stays = absurd (stays r refl)
+
+-- bytes that stand one behind the other
+pub stand_first : (a c : List ℕ) (p : ℕ) (rom : List ℕ) → StandAt (a ++ c) p rom → StandAt a p rom
+stand_first a c p rom (rest, e) = (c ++ rest, e ∙ append_assoc a c rest)
+
+pub stand_second : (a c : List ℕ) (p : ℕ) (rom : List ℕ) → StandAt (a ++ c) p rom → StandAt c (p + length a) rom
+stand_second a c p rom (rest, e) = (rest, sym (drop-drop (length a) p rom) ∙ ap (drop (length a)) (e ∙ append_assoc a c rest) ∙ drop_at a (c ++ rest) (length a) refl)
+
+rom_same : (b : Booting) (h n : ℕ) (item : Item) → (does h n item b).core.rom ≡ b.core.rom
+rom_same b h n (Put r v) = refl
+rom_same b h n (Csr num r) = refl
+rom_same b h n (CsrImm num u) = refl
+rom_same b h n (Store size r at off) = refl
+rom_same b h n (Load size r at off) = refl
+rom_same b h n (Go r) = refl
+
+harts_same : (b : Booting) (h n : ℕ) (item : Item) → length (does h n item b).core.harts ≡ length b.core.harts
+harts_same b h n (Put r v) = length-set b.core.harts h _
+harts_same b h n (Csr num r) = length-set b.core.harts h _
+harts_same b h n (CsrImm num u) = length-set b.core.harts h _
+harts_same b h n (Store size r at off) = length-set (map (without_reservation (offset_by (register (hart_of b.core h) at) off) size) b.core.harts) h _ ∙ length-map b.core.harts (without_reservation (offset_by (register (hart_of b.core h) at) off) size)
+harts_same b h n (Load size r at off) = length-set b.core.harts h _
+harts_same b h n (Go r) = length-set b.core.harts h _
+
+-- no item but the last one goes
+abbrev pub Stays : List Spelling → Type 0
+Stays [] = Unit {0}
+Stays (s ∷ rest) = ((r : ℕ) → s.item ≢ Go r) × Stays rest
+
+none_lead : (h : ℕ) (b : Booting) → Leads h 0 b b
+none_lead h b left = let e : 0 + left ≡ left = omega arith in ap (λ n. boot_hart n h b) e
+
+some_words : {n : ℕ} {memory : MemoryState} {hart : Hart} {block : ℕ} {item : Item} {insns : List Insn} → Spelled n memory hart block item insns → 0 < length insns
+some_words (small r v imm some r_fits is_signed is) = omega arith
+some_words (upper r v imm some r_fits is_signed multiple is) = omega arith
+some_words (pair r v high low some r_fits high_fits multiple low_fits is) = omega arith
+some_words (pooled r v off some r_fits fits near aligned at pool) = omega arith
+some_words (csr num r r_fits num_fits writable) = omega arith
+some_words (csr_imm num u u_fits num_fits writable) = omega arith
+some_words (store w r at off r_fits at_fits is_signed aligned below device) = omega arith
+some_words (load w r at off some r_fits at_fits is_signed aligned below device) = omega arith
+some_words (go r r_fits fits) = omega arith
+
+pub items_join : (b : Booting) (h p block : ℕ) (items : List Spelling) → h < length b.core.harts → Stands (memory_of b.core) (hart_of b.core h) p → AllSpelled h block items b → Stays items → StandAt (code (all_insns items)) p b.core.rom → Leads h (word_count items) b (all_do h items b) × Stands (memory_of (all_do h items b).core) (hart_of (all_do h items b).core h) (p + 4 * word_count items)
+items_join b h p block [] inside stands spelled stays there = (none_lead h b, subst (λ q. Stands (memory_of b.core) (hart_of b.core h) q) (let e : p ≡ p + 0 = omega arith in e) stands)
+items_join b h p block (s ∷ rest) inside stands spelled stays there =
+    let split : StandAt (code s.insns ++ code (all_insns rest)) p b.core.rom = subst (λ bs. StandAt bs p b.core.rom) (code_append s.insns (all_insns rest)) there in
+    let first : StandAt (code s.insns) p b.core.rom = stand_first (code s.insns) (code (all_insns rest)) p b.core.rom split in
+    let b1 : Booting = does h (length s.insns) s.item b in
+    let words : 0 < length s.insns = some_words spelled.0 in
+    let within : p + 4 * length s.insns ≤ length b.core.rom = omega (arith, code_length s.insns, room p (code s.insns) first.0 b.core.rom first.1 (let k = code_length s.insns in omega arith)) in
+    let second : StandAt (code (all_insns rest)) (p + 4 * length s.insns) b1.core.rom =
+    subst (λ q. StandAt (code (all_insns rest)) q b1.core.rom) (ap (λ k. p + k) (code_length s.insns)) (subst (λ rom. StandAt (code (all_insns rest)) (p + length (code s.insns)) rom) (sym (rom_same b h (length s.insns) s.item)) (stand_second (code s.insns) (code (all_insns rest)) p b.core.rom split)) in
+    let inside1 : h < length b1.core.harts = omega (arith, harts_same b h (length s.insns) s.item) in
+    let after = items_join b1 h (p + 4 * length s.insns) block rest inside1 (stands_after b h p block s.item s.insns inside stands spelled.0 within stays.0) spelled.1 stays.1 second in
+    let place : p + 4 * length s.insns + 4 * word_count rest ≡ p + 4 * (length s.insns + word_count rest) = omega arith in (
+      leads_join h (length s.insns) (word_count rest) b b1 (all_do h rest b1) (item_steps b h p block s.item s.insns inside stands spelled.0 first) after.0,
+      subst (λ q. Stands (memory_of (all_do h rest b1).core) (hart_of (all_do h rest b1).core h) q) place after.1,
+    )

@@ -1,0 +1,300 @@
+-- Booting from the ROM restores the machine.
+use Rattle.std.proofs.Common.{◌≡◌, ℕ, zero, suc, ◌+◌, ◌*◌, ◌%◌, ◌<◌, ◌≤◌, ⊎_elim, Bool, true, false, cond, List, [], ◌∷◌, ◌++◌, length, refl, sym, ap, ◌∙◌, arith, subst, length-append, map}
+use Rattle.std.specs.Prelude.{pos, All, Option, Some, None, is_some, is_none, slice_index, nat_lt}
+use Rattle.std.specs.List.{position, position_or_len}
+use Rattle.std.proofs.Math.ListN.{get_or}
+use Rattle.std.proofs.Math.Seq.{get_or-append_seam}
+use Rattle.std.proofs.lemmas.Bool.{cases_eq, ltb-false}
+use Rattle.std.proofs.lemmas.List.{append-nil, get_or-map, get_or_append_left, get_or-set_same, get_or-set_other, length-map, length-set, same_lists}
+use Rattle.std.proofs.lemmas.List.Elements.{All-set}
+use Rattle.std.proofs.lemmas.List.Folds.{list_any_at, list_any_none}
+use Rattle.std.proofs.lemmas.List.Sums.{fails_before_first}
+use Rattle.byteorder.specs.Endian.{little_bytes}
+use Rattle.rv_decode.specs.declared.Insn.{Insn}
+use Rattle.csr_file.specs.declared.registers.DebugRegs.{DebugRegs}
+use Rattle.clint.specs.State.{hart_count}
+use Rattle.board_bus.specs.Board as board
+use Rattle.board_bus.specs.Board.{BoardState, reset_board}
+use Rattle.hart_step.specs.declared.hart.Hart.{Hart}
+use Rattle.hart_step.specs.Fit.{IsKept}
+use Rattle.hart_step.specs.Harts.{CoreState, is_in_debug, reset_hart}
+use Rattle.hart_step.specs.Memory.{most_rom, rom_base}
+use Rattle.hart_step.specs.Step.{unreserved, unreserved_hart}
+use Rattle.hart_turns.specs.Machine.{MachineState, is_running}
+use Rattle.hart_turns.specs.Fit.{IsFit}
+use Rattle.hart_turns.specs.Boot.{Booting, Frees, Leads, boot_harts, most_steps}
+use Rattle.rom_gen.specs.Items.{Spelling, StandAt, becomes, code, word_count}
+use Rattle.hart_step.specs.DebugReset.{debug_registers}
+use Rattle.rom_gen.specs.Rom.{all_blocks, device_bytes, device_items, device_place, device_size, device_values, dispatch_insns, first_place, hart_bytes, hart_items, hart_values, places, pool_place, rom_bytes, starts, table}
+use Rattle.hart_step.specs.DebugReset.{debug_core, debug_harts, reset_debug_hart}
+use Rattle.rom_gen.proofs.AllHarts.{all_free, at_hart, half, half_done, half_later, half_length, rom_while, total}
+use Rattle.rom_gen.proofs.Deeds.{moved}
+use Rattle.rom_gen.proofs.DeviceEnd.{device_block}
+use Rattle.rom_gen.proofs.Dispatched.{IsBegun, dispatched}
+use Rattle.rom_gen.proofs.HartBlock.{HasCome, IsTarget, freed, freed_moved, hart_frees}
+use Rattle.rom_gen.proofs.ItemSteps.{code_length, stand_first, stand_second}
+use Rattle.hart_turns.proofs.BootSteps.{frees_join, leads_join}
+use Rattle.rom_gen.proofs.RomParts.{Laid, block_stands, blocks_length, device_count, device_even, device_fixed, device_length, device_small, device_words, entry_stands, first_start, hart_few, hart_fixed, hart_short, laid, start_even, start_small, starts_length, table_length}
+use Rattle.rom_gen.proofs.SecondLayout.{second_layout}
+use Rattle.rom_gen.proofs.Targets.{is_target}
+
+-- ---- where the parts stand
+
+record Parts (t : BoardState) (ts : List Hart) (rom : List ℕ) : Type 0 where
+  small : length rom ≤ most_rom
+  dispatch : StandAt (code dispatch_insns) 0 rom
+  entries : (i : ℕ) → i < length ts → StandAt (little_bytes 8 (rom_base + slice_index (places t ts) i)) (24 + 8 * i) rom
+  device : StandAt (device_bytes t (first_place t ts)) (device_place ts) rom
+  blocks : (i : ℕ) (d : Hart) → i < length ts → StandAt (hart_bytes (get_or ts i d)) (slice_index (starts (first_place t ts) ts) i) rom
+
+pub places_length : (t : BoardState) (ts : List Hart) → length (places t ts) ≡ length ts
+places_length t ts = length-set (starts (first_place t ts) ts) 0 (device_place ts) ∙ starts_length (first_place t ts) ts
+
+parts : (t : BoardState) (ts : List Hart) → board.IsFit t → length ts ≤ 8 → Parts t ts (rom_bytes t ts)
+parts t ts fit few =
+    let first : ℕ = first_place t ts in
+    let a : List ℕ = code dispatch_insns in
+    let c : List ℕ = table (places t ts) in
+    let d : List ℕ = device_bytes t first in
+    let e : List ℕ = all_blocks ts in
+    let rom : List ℕ = a ++ (c ++ (d ++ e)) in
+    let a_length : length a ≡ 24 = code_length dispatch_insns in
+    let c_length : length c ≡ 8 * length ts = table_length (places t ts) ∙ ap (λ n. 8 * n) (places_length t ts) in
+    let d_length : length d ≡ device_size t = device_length t first in
+    let whole : StandAt rom 0 rom = ([], sym (append-nil rom)) in
+    let behind_a : StandAt (c ++ (d ++ e)) 24 rom = subst (λ q. StandAt (c ++ (d ++ e)) q rom) a_length (stand_second a (c ++ (d ++ e)) 0 rom whole) in
+    let behind_c : StandAt (d ++ e) (device_place ts) rom = subst (λ q. StandAt (d ++ e) q rom) (ap (λ n. 24 + n) c_length) (stand_second c (d ++ e) 24 rom behind_a) in
+    let behind_d : StandAt e first rom = subst (λ q. StandAt e q rom) (ap (λ n. device_place ts + n) d_length) (stand_second d e (device_place ts) rom behind_c) in
+    record {
+      small = omega (arith, length-append a (c ++ (d ++ e)), length-append c (d ++ e), length-append d e, a_length, c_length, d_length, device_small t fit, blocks_length ts, few);
+      dispatch = stand_first a (c ++ (d ++ e)) 0 rom whole;
+      entries = λ i within. entry_stands (places t ts) 24 i rom (omega (arith, places_length t ts)) (stand_first c (d ++ e) 24 rom behind_a);
+      device = stand_first d e (device_place ts) rom behind_c;
+      blocks = λ i x within. block_stands ts first i x rom within behind_d;
+    }
+
+-- ---- the block of a hart
+
+abbrev pub hart_steps : Hart → ℕ
+hart_steps t = word_count (hart_items t (pool_place (hart_items t))) + 1
+
+hart_part : (b : Booting) (h block : ℕ) (t : Hart) → IsTarget t → HasCome b h block t → StandAt (hart_bytes t) block b.core.rom → Frees h (hart_steps t) b (freed h (hart_steps t) (unreserved_hart t) b.board b)
+unfolding hart_bytes
+hart_part b h block t target come there =
+    let k : ℕ = pool_place (hart_items t) in
+    let stands : Laid (hart_items t) Insn.Dret (hart_values t) block b.core.rom = laid (hart_items t) Insn.Dret (hart_values t) block b.core.rom (hart_fixed t) there in
+    let n : ℕ = word_count (hart_items t 0) in
+    let short : n ≤ 165 = hart_short t in
+    let few : length (hart_values t) ≤ 55 = hart_few t in
+    hart_frees second_layout b h block k t target come (omega arith) (omega arith) stands.codes stands.pools
+
+-- ---- the block of the devices
+
+abbrev pub device_steps : BoardState → ℕ → ℕ
+device_steps t next = word_count (device_items (pool_place (λ k. device_items k t next)) t next) + 1
+
+device_part : (b : Booting) (h block next : ℕ) (t : BoardState) (owner : Hart) → board.IsFit t → length b.core.harts ≡ hart_count t.clint → b.board ≡ reset_board (hart_count t.clint) → All (λ (x : Hart). x.reservation ≡ None) b.core.harts → HasCome b h block owner → next % 8 ≡ 0 → next ≤ most_rom → StandAt (device_bytes t next) block b.core.rom →
+    (hart : Hart) × (Leads h (device_steps t next) b (moved h (device_steps t next) hart t b)) × HasCome (moved h (device_steps t next) hart t b) h next owner
+unfolding device_bytes device_size
+device_part b h block next t owner fit count fresh free come even within there =
+    let items : ℕ → List Spelling = λ k. device_items k t next in
+    let k : ℕ = pool_place items in
+    let stands : Laid items (Insn.Jalr 0 1 (pos 0)) (device_values t) block b.core.rom = laid items (Insn.Jalr 0 1 (pos 0)) (device_values t) block b.core.rom (device_fixed t next) there in
+    let n : ℕ = word_count (device_items 0 t next) in
+    let size : device_size t ≤ 1616 = device_small t fit in
+    let same : n ≡ word_count (device_items 0 t 0) = device_count t next in
+    device_block b h block k next t owner fit count fresh free come even within (record { aligned = come.aligned; even = omega arith; room = omega arith; there = stands.pools }) stands.codes
+
+-- ---- harts in debug mode
+
+fresh_length : (n : ℕ) → length (debug_harts n) ≡ n
+unfolding debug_harts
+fresh_length zero = refl
+fresh_length (suc n) = omega (arith, length-append (debug_harts n) (reset_debug_hart n ∷ []), fresh_length n)
+
+fresh_at : (n h : ℕ) (d : Hart) → h < n → get_or (debug_harts n) h d ≡ reset_debug_hart h
+unfolding debug_harts
+fresh_at zero h d below = absurd (omega arith)
+fresh_at (suc n) h d below = ⊎_elim
+    (λ e. ap (λ i. get_or (debug_harts n ++ reset_debug_hart n ∷ []) i d) (e ∙ sym (fresh_length n)) ∙ get_or-append_seam (debug_harts n) (reset_debug_hart n) [] d ∙ ap reset_debug_hart (sym e))
+    (λ a. get_or_append_left (debug_harts n) (reset_debug_hart n ∷ []) d h (omega (arith, fresh_length n)) ∙ fresh_at n h d (omega arith))
+    (cases_eq h n)
+
+fresh_free : (n : ℕ) → All (λ (x : Hart). x.reservation ≡ None) (debug_harts n)
+fresh_free n i d within = ap (λ (x : Hart). x.reservation) (fresh_at n i d (omega (arith, fresh_length n)))
+
+-- ---- which harts a running machine has
+
+absent : {A : Type 0} (b : Bool) (x : A) → is_none (cond b (Some x) None) ≡ true → b ≡ false
+absent true x e = absurd (cc)
+absent false x e = refl
+
+not_some : (o : Option DebugRegs) → is_some o ≡ false → o ≡ None
+not_some None e = refl
+not_some (Some d) e = absurd (cc)
+
+all_out : (harts : List Hart) → is_none (position is_in_debug harts) ≡ true → (i : ℕ) (d : Hart) → i < length harts → is_in_debug (get_or harts i d) ≡ false
+all_out harts running i d within =
+    let none : nat_lt (position_or_len is_in_debug harts) (length harts) ≡ false = absent _ _ running in
+    let most : length harts ≤ position_or_len is_in_debug harts = ltb-false _ _ none in
+    fails_before_first is_in_debug harts i d (omega arith)
+
+-- ---- the whole
+
+abbrev pub steps_of : BoardState → List Hart → ℕ → ℕ
+steps_of t ts zero = 6 + device_steps t (first_place t ts) + hart_steps (get_or ts 0 (reset_hart 0 0))
+steps_of t ts (suc h) = 6 + hart_steps (get_or ts (suc h) (reset_hart 0 0))
+
+abbrev pub boards_of : BoardState → ℕ → ℕ → BoardState
+boards_of t n zero = reset_board n
+boards_of t n (suc h) = t
+
+abbrev pub target_of : List Hart → ℕ → Hart
+target_of ts h = unreserved_hart (get_or ts h (reset_hart 0 0))
+
+abbrev start_of : BoardState → CoreState → ℕ → Booting
+start_of t core h = record {
+  core = record { harts = half (target_of core.harts) (debug_harts (length core.harts)) h; ram = core.ram; rom = rom_bytes t core.harts };
+  board = boards_of t (length core.harts) h;
+  console = [];
+  steps = total (steps_of t core.harts) h;
+}
+
+begun : (t : BoardState) (core : CoreState) (h : ℕ) → board.IsFit t → IsKept core → h < length core.harts → IsBegun (start_of t core h) h (slice_index (places t core.harts) h) (reset_debug_hart h) (get_or core.harts h (reset_hart 0 0))
+begun t core h fit kept within =
+    let ts : List Hart = core.harts in
+    let n : ℕ = length ts in
+    let ps : Parts t ts (rom_bytes t ts) = parts t ts fit kept.most in
+    let first : ℕ = first_place t ts in
+    let target : ℕ → Hart = target_of ts in
+    let fresh : List Hart = debug_harts n in
+    let number : (get_or ts h (reset_hart 0 0)).csrs.hart ≡ h = kept.numbers h within in
+    let most : n ≤ 8 = kept.most in
+    let all : length (half target fresh h) ≡ n = half_length target fresh h ∙ fresh_length n in
+    let place : ((slice_index (places t ts) h) % 8 ≡ 0) × (slice_index (places t ts) h ≤ most_rom) = ⊎_elim
+    (λ e. let is : slice_index (places t ts) h ≡ device_place ts = ap (slice_index (places t ts)) e ∙ get_or-set_same (starts first ts) 0 (device_place ts) 0 (omega (arith, starts_length first ts)) in (omega arith, omega arith))
+    (λ a. let is : slice_index (places t ts) h ≡ slice_index (starts first ts) h = get_or-set_other (starts first ts) 0 h (device_place ts) 0 a in
+    (ap (λ q. q % 8) is ∙ start_even ts first h (omega (arith, device_even t)) within, omega (arith, start_small ts first h within, device_small t fit)))
+    (cases_eq h 0) in
+    record {
+      inside = omega arith;
+      few = omega arith;
+      is = half_later target fresh h h (reset_hart 0 0) (omega arith) ∙ fresh_at n h (reset_hart 0 0) within;
+      pc = refl;
+      count = refl;
+      nought = refl;
+      csrs = ap debug_registers (sym number);
+      number = number;
+      reservation = refl;
+      small = ps.small;
+      dispatch = ps.dispatch;
+      entry = ps.entries h within;
+      aligned = place.0;
+      within = place.1;
+    }
+
+-- hart h does its part
+each : (t : BoardState) (core : CoreState) (h : ℕ) → board.IsFit t → IsKept core → hart_count t.clint ≡ length core.harts → ((i : ℕ) → i < length core.harts → IsTarget (get_or core.harts i (reset_hart 0 0))) → h < length core.harts →
+    Frees h (steps_of t core.harts h) (start_of t core h) (at_hart (target_of core.harts) (debug_harts (length core.harts)) core.ram (rom_bytes t core.harts) (boards_of t (length core.harts)) (steps_of t core.harts) (suc h))
+unfolding half
+each t core zero fit kept count targets within =
+    let ts : List Hart = core.harts in
+    let n : ℕ = length ts in
+    let rom : List ℕ = rom_bytes t ts in
+    let ps : Parts t ts rom = parts t ts fit kept.most in
+    let first : ℕ = first_place t ts in
+    let most : n ≤ 8 = kept.most in
+    let owner : Hart = get_or ts 0 (reset_hart 0 0) in
+    let b : Booting = start_of t core 0 in
+    let begins = dispatched b 0 (slice_index (places t ts) 0) (reset_debug_hart 0) owner (begun t core 0 fit kept within) in
+    let next : Hart = begins.0 in
+    let b1 : Booting = becomes 0 6 next b in
+    let at : slice_index (places t ts) 0 ≡ device_place ts = get_or-set_same (starts first ts) 0 (device_place ts) 0 (omega (arith, starts_length first ts)) in
+    let come1 : HasCome b1 0 (device_place ts) owner = subst (λ p. HasCome b1 0 p owner) at begins.2 in
+    let none : next.reservation ≡ None = ap (λ (x : Hart). x.reservation) (sym (get_or-set_same (debug_harts n) 0 next (reset_hart 0 0) (omega (arith, fresh_length n)))) ∙ come1.reservation in
+    let free1 : All (λ (x : Hart). x.reservation ≡ None) b1.core.harts = All-set (λ (x : Hart). x.reservation ≡ None) (debug_harts n) 0 next none (fresh_free n) in
+    let harts1 : length b1.core.harts ≡ hart_count t.clint = length-set (debug_harts n) 0 next ∙ fresh_length n ∙ sym count in
+    let devices = device_part b1 0 (device_place ts) first t owner fit harts1 (ap reset_board (sym count)) free1 come1 (omega (arith, device_even t)) (omega (arith, device_small t fit)) ps.device in
+    let m : ℕ = device_steps t first in
+    let w : ℕ = hart_steps owner in
+    let second : Hart = devices.0 in
+    let b2 : Booting = moved 0 m second t b1 in
+    let stands : StandAt (hart_bytes owner) first rom = subst (λ p. StandAt (hart_bytes owner) p rom) (first_start ts first within) (ps.blocks 0 (reset_hart 0 0) within) in
+    let frees : Frees 0 w b2 (freed 0 w (unreserved_hart owner) t b2) = hart_part b2 0 first owner (targets 0 within) devices.2 stands in
+    let same : freed 0 w (unreserved_hart owner) t b2 ≡ freed 0 (6 + m + w) (unreserved_hart owner) t b =
+    freed_moved 0 m w second (unreserved_hart owner) t t b1
+    ∙ freed_moved 0 6 (m + w) next (unreserved_hart owner) (reset_board n) t b
+    ∙ ap (λ k. freed 0 k (unreserved_hart owner) t b) (omega arith) in
+    subst (λ x. Frees 0 (6 + m + w) b x) same (frees_join 0 (6 + m) w b b2 _ (leads_join 0 6 m b b1 b2 begins.1 devices.1) frees)
+each t core (suc g) fit kept count targets within =
+    let h : ℕ = suc g in
+    let ts : List Hart = core.harts in
+    let n : ℕ = length ts in
+    let rom : List ℕ = rom_bytes t ts in
+    let ps : Parts t ts rom = parts t ts fit kept.most in
+    let first : ℕ = first_place t ts in
+    let owner : Hart = get_or ts h (reset_hart 0 0) in
+    let b : Booting = start_of t core h in
+    let begins = dispatched b h (slice_index (places t ts) h) (reset_debug_hart h) owner (begun t core h fit kept within) in
+    let next : Hart = begins.0 in
+    let b1 : Booting = becomes h 6 next b in
+    let at : slice_index (places t ts) h ≡ slice_index (starts first ts) h = get_or-set_other (starts first ts) 0 h (device_place ts) 0 (omega arith) in
+    let come1 : HasCome b1 h (slice_index (starts first ts) h) owner = subst (λ p. HasCome b1 h p owner) at begins.2 in
+    let w : ℕ = hart_steps owner in
+    let frees : Frees h w b1 (freed h w (unreserved_hart owner) t b1) = hart_part b1 h (slice_index (starts first ts) h) owner (targets h within) come1 (ps.blocks h (reset_hart 0 0) within) in
+    let same : freed h w (unreserved_hart owner) t b1 ≡ freed h (6 + w) (unreserved_hart owner) t b = freed_moved h 6 w next (unreserved_hart owner) t t b in
+    subst (λ x. Frees h (6 + w) b x) same (frees_join h 6 w b b1 _ begins.1 frees)
+
+few_steps : (t : BoardState) (ts : List Hart) (h : ℕ) → board.IsFit t → steps_of t ts h ≤ most_steps
+few_steps t ts zero fit =
+    let first : ℕ = first_place t ts in
+    let owner : Hart = get_or ts 0 (reset_hart 0 0) in
+    omega (arith, device_fixed t first (pool_place (λ k. device_items k t first)), device_words t first fit, hart_fixed owner (pool_place (hart_items owner)), hart_short owner)
+few_steps t ts (suc h) fit =
+    let owner : Hart = get_or ts (suc h) (reset_hart 0 0) in
+    omega (arith, hart_fixed owner (pool_place (hart_items owner)), hart_short owner)
+
+-- the machine that boots
+abbrev pub debug_machine : MachineState → Booting
+debug_machine m = record { core = debug_core m.shape.harts m.core.ram (rom_bytes m.board m.core.harts); board = reset_board m.shape.harts; console = []; steps = 0 }
+
+last_board : (t : BoardState) (k n : ℕ) → 0 < n → boards_of t k n ≡ t
+last_board t k zero some = absurd (omega arith)
+last_board t k (suc n) some = refl
+
+pub restores : (m : MachineState) → IsFit m → is_running m ≡ true →
+    (length (rom_bytes m.board m.core.harts) ≤ most_rom)
+    × (boot_harts m.shape.harts (debug_machine m) ≡ record { left = record { core = unreserved m.core; board = m.board; console = []; steps = total (steps_of m.board m.core.harts) m.shape.harts }; fault = None })
+unfolding half
+restores m fit running =
+    let t : BoardState = m.board in
+    let core : CoreState = m.core in
+    let ts : List Hart = core.harts in
+    let n : ℕ = length ts in
+    let kept : IsKept core = fit.core.kept in
+    let t_fit : board.IsFit t = fit.board in
+    let rom : List ℕ = rom_bytes t ts in
+    let target : ℕ → Hart = target_of ts in
+    let fresh : List Hart = debug_harts n in
+    let boards : ℕ → BoardState = boards_of t n in
+    let steps : ℕ → ℕ = steps_of t ts in
+    let count : hart_count t.clint ≡ n = fit.shape.devices ∙ sym fit.shape.harts in
+    let some : 0 < n = kept.some in
+    let targets : (i : ℕ) → i < n → IsTarget (get_or ts i (reset_hart 0 0)) = λ i within. is_target (get_or ts i (reset_hart 0 0)) (kept.harts i (reset_hart 0 0) within) (not_some _ (all_out ts running i (reset_hart 0 0) within)) in
+    let in_debug : (harts : List Hart) (i : ℕ) → i < length fresh → is_in_debug (get_or fresh i (reset_hart 0 0)) ≡ true = λ harts i within. ap is_in_debug (fresh_at n i (reset_hart 0 0) (omega (arith, fresh_length n))) in
+    let frees = all_free target fresh core.ram rom boards steps (in_debug fresh) (λ h within. few_steps t ts h t_fit) (λ h within. each t core h t_fit kept count targets (omega (arith, fresh_length n))) n (omega (arith, fresh_length n)) (omega (arith, fresh_length n)) in
+    let begins : rom_while fresh rom ≡ rom = ap (λ c. cond c rom []) (list_any_at is_in_debug fresh 0 (reset_hart 0 0) (omega (arith, fresh_length n)) (in_debug fresh 0 (omega (arith, fresh_length n)))) in
+    let done : half target fresh n ≡ map unreserved_hart ts = same_lists _ _ (half_length target fresh n ∙ fresh_length n ∙ sym (length-map ts unreserved_hart)) (λ i d within. half_done target fresh n i d (omega (arith, half_length target fresh n, fresh_length n)) (omega (arith, fresh_length n)) ∙ sym (get_or-map unreserved_hart ts i (reset_hart 0 0) d (omega (arith, half_length target fresh n, fresh_length n)))) in
+    let free : All (λ x. is_in_debug x ≡ false) ts = λ i d within. all_out ts running i d within in
+    let all_free_after : All (λ x. is_in_debug x ≡ false) (map unreserved_hart ts) = λ i d within. ap is_in_debug (get_or-map unreserved_hart ts i (reset_hart 0 0) d (omega (arith, length-map ts unreserved_hart))) ∙ all_out ts running i (reset_hart 0 0) (omega (arith, length-map ts unreserved_hart)) in
+    let ends : rom_while (half target fresh n) rom ≡ core.rom =
+    ap (λ hs. rom_while hs rom) done ∙ ap (λ c. cond c rom []) (list_any_none is_in_debug (map unreserved_hart ts) all_free_after) ∙ sym (kept.closed (list_any_none is_in_debug ts free)) in
+    let last : boards n ≡ t = last_board t n n some in (
+      (parts t ts t_fit kept.most).small,
+      subst (λ k. boot_harts k (record { core = debug_core k core.ram rom; board = reset_board k; console = []; steps = 0 }) ≡ record { left = record { core = unreserved core; board = t; console = []; steps = total steps k }; fault = None }) fit.shape.harts
+          (ap (λ r. boot_harts n (record { core = record { harts = fresh; ram = core.ram; rom = r }; board = reset_board n; console = []; steps = 0 })) (sym begins)
+          ∙ frees
+          ∙ ap (λ hs. record { left = record { core = record { harts = hs; ram = core.ram; rom = rom_while (half target fresh n) rom }; board = boards n; console = []; steps = total steps n }; fault = None }) done
+          ∙ ap (λ r. record { left = record { core = record { harts = map unreserved_hart ts; ram = core.ram; rom = r }; board = boards n; console = []; steps = total steps n }; fault = None }) ends
+          ∙ ap (λ x. record { left = record { core = unreserved core; board = x; console = []; steps = total steps n }; fault = None }) last),
+    )

@@ -1,0 +1,294 @@
+-- Where the parts of the ROM stand, and how long they are.
+use Rattle.std.proofs.Common.{◌≡◌, ◌≢◌, ℕ, zero, suc, ◌+◌, ◌*◌, ◌%◌, ◌<◌, ◌≤◌, Bool, true, false, cond, List, [], ◌∷◌, ◌++◌, length, refl, sym, ap, ◌∙◌, arith, subst, length-append, ◌==◌, eq-eqb}
+use Rattle.plic.specs.State.{context_count as contexts_of}
+use Rattle.std.specs.Prelude.{ℤ, pos, negsuc, slice_index, nat_le}
+use Rattle.std.proofs.lemmas.Bool.{eqb-true}
+use Rattle.std.proofs.Math.ListN.{get_or}
+use Rattle.byteorder.specs.Endian.{little_bytes}
+use Rattle.rv_decode.specs.declared.Insn.{Insn}
+use Rattle.rv_alu.specs.Modes.{level}
+use Rattle.csr_file.specs.Bits.{dcsr_fixed}
+use Rattle.csr_file.specs.Legal.{kept_slots}
+use Rattle.csr_file.specs.Numbers.{csr_dcsr, csr_dpc}
+use Rattle.clint.specs.State.{hart_count}
+use Rattle.board_bus.specs.Board.{BoardState, IsFit}
+use Rattle.hart_step.specs.declared.hart.Hart.{Hart}
+use Rattle.hart_step.specs.Memory.{rom_base}
+use Rattle.rom_gen.specs.Items.{Put, Store, Word, Double, Spelling, StandAt, Width, all_insns, code, size_of, store_insn, word_count}
+use Rattle.rom_gen.specs.HartWants.{controls, first_wants, numbered, registers, slot_wants}
+use Rattle.rom_gen.specs.Wants.{Want, Reg, Control, all_values, high_part, low_part, is_short, is_small, placed, pool, put_insns, second_spell, second_values, short_values}
+use Rattle.rom_gen.specs.Deeds.{Deed, Aim, Save, Again, Read, all_deed_values, deed_items, deed_values, placed_deeds}
+use Rattle.rom_gen.specs.DeviceBlock.{compare_deeds, context_deeds, device_deeds, queue_deeds, soft_deeds, timer_deeds}
+use Rattle.rom_gen.specs.Rom.{all_blocks, block_bytes, block_size, block_words, device_bytes, device_items, device_size, device_values, far_insns, hart_bytes, hart_items, hart_size, hart_values, padding, pool_place, rounded, starts, table}
+use Rattle.rom_gen.proofs.Deeds.{count_append}
+use Rattle.rom_gen.proofs.HartBlock.{insns_count}
+use Rattle.rom_gen.proofs.ItemSteps.{code_length, stand_first, stand_second}
+use Rattle.rom_gen.proofs.Placed.{pool_length}
+use Rattle.rom_gen.proofs.Sizes.{placed_fixed, placed_short, put_fixed, put_short, second_sized}
+
+-- ---- a block
+
+padding_length : (n : ℕ) (b : Bool) → (n % 2 == 0) ≡ b → length (code (cond b [] (Insn.Addi 0 0 (pos 0) ∷ []))) ≡ 4 * (n % 2)
+padding_length n true is = let e : n % 2 ≡ 0 = eqb-true (n % 2) 0 is in omega arith
+padding_length n false is = let e : n % 2 ≢ 0 = (λ z. cc (is, eq-eqb (n % 2) 0 z)) in omega arith
+
+pub record Laid (items : ℕ → List Spelling) (last : Insn) (values : List ℕ) (block : ℕ) (rom : List ℕ) : Type 0 where
+  pub codes : StandAt (code (all_insns (items (pool_place items))) ++ code (last ∷ [])) block rom
+  pub pools : StandAt (pool values) (block + pool_place items) rom
+
+front_length : (items : ℕ → List Spelling) (last : Insn) → ((k : ℕ) → word_count (items k) ≡ word_count (items 0)) → length (code (all_insns (items (pool_place items))) ++ code (last ∷ [])) ≡ 4 * block_words items
+front_length items last fixed =
+    let k : ℕ = pool_place items in
+    length-append (code (all_insns (items k))) (code (last ∷ [])) ∙ ap (λ n. n + 4) (code_length (all_insns (items k)) ∙ ap (λ n. 4 * n) (insns_count (items k) ∙ fixed k)) ∙ omega arith
+
+pub block_length : (items : ℕ → List Spelling) (last : Insn) (values : List ℕ) → ((k : ℕ) → word_count (items k) ≡ word_count (items 0)) → length (block_bytes items last values) ≡ block_size items values
+block_length items last values fixed =
+    let front : List ℕ = code (all_insns (items (pool_place items))) ++ code (last ∷ []) in
+    let pad : List ℕ = code (padding (block_words items)) in
+    omega (arith, length-append front (pad ++ pool values), length-append pad (pool values), front_length items last fixed, padding_length (block_words items) (block_words items % 2 == 0) refl, pool_length values)
+
+pub laid : (items : ℕ → List Spelling) (last : Insn) (values : List ℕ) (block : ℕ) (rom : List ℕ) → ((k : ℕ) → word_count (items k) ≡ word_count (items 0)) → StandAt (block_bytes items last values) block rom → Laid items last values block rom
+laid items last values block rom fixed there =
+    let front : List ℕ = code (all_insns (items (pool_place items))) ++ code (last ∷ []) in
+    let pad : List ℕ = code (padding (block_words items)) in
+    let behind : StandAt (pad ++ pool values) (block + length front) rom = stand_second front (pad ++ pool values) block rom there in
+    let end : StandAt (pool values) (block + length front + length pad) rom = stand_second pad (pool values) (block + length front) rom behind in
+    let place : block + length front + length pad ≡ block + pool_place items = omega (arith, front_length items last fixed, padding_length (block_words items) (block_words items % 2 == 0) refl) in
+    record { codes = stand_first front (pad ++ pool values) block rom there; pools = subst (λ q. StandAt (pool values) q rom) place end }
+
+-- ---- a hart's block
+
+pub hart_fixed : (t : Hart) (k : ℕ) → word_count (hart_items t k) ≡ word_count (hart_items t 0)
+hart_fixed t k =
+    let ws : List Want = first_wants t in
+    let l : Want = Reg 1 (slice_index t.x 1) in
+    let n : ℕ = 8 * length (all_values second_values ws) in
+    omega (arith, count_append (placed second_spell second_values k ws) (second_spell (k + n) l), count_append (placed second_spell second_values 0 ws) (second_spell (0 + n) l), placed_fixed second_values second_sized k 0 ws, second_sized.fixed (k + n) l, second_sized.fixed (0 + n) l)
+
+slots_length : (t : Hart) → length (slot_wants t.csrs kept_slots) ≡ 22
+unfolding slot_wants kept_slots
+slots_length t = refl
+
+numbered_length : (n i : ℕ) (xs : List ℕ) → length (numbered n i xs) ≡ n
+unfolding numbered
+numbered_length zero i xs = refl
+numbered_length (suc n) i xs = let e = numbered_length n (suc i) xs in omega arith
+
+wants_length : (t : Hart) → length (first_wants t) ≡ 54
+wants_length t =
+    let a : List Want = slot_wants t.csrs kept_slots in
+    omega (arith, length-append (controls t) (registers t), length-append a (Control csr_dcsr (dcsr_fixed + level t.mode) ∷ Control csr_dpc t.pc ∷ []), slots_length t, numbered_length 30 2 t.x)
+
+pub hart_short : (t : Hart) → word_count (hart_items t 0) ≤ 165
+hart_short t =
+    let ws : List Want = first_wants t in
+    let l : Want = Reg 1 (slice_index t.x 1) in
+    let n : ℕ = 8 * length (all_values second_values ws) in
+    omega (arith, count_append (placed second_spell second_values 0 ws) (second_spell (0 + n) l), placed_short second_values second_sized 0 ws, second_sized.short (0 + n) l, wants_length t)
+
+some_values : (b c : Bool) (v : ℕ) → length (cond b [] (cond c [] (v ∷ []))) ≤ 1
+some_values true c v = omega arith
+some_values false true v = omega arith
+some_values false false v = omega arith
+
+want_values : (d : Bool) (v : ℕ) → length (cond d [] (short_values v)) ≤ 1
+want_values true v = omega arith
+want_values false v = some_values (is_small v) (is_short v) v
+
+pub one_value : (w : Want) → length (second_values w) ≤ 1
+one_value (Reg r v) = some_values (is_small v) (is_short v) v
+one_value (Control number v) = want_values (nat_le v 31) v
+
+values_few : (ws : List Want) → length (all_values second_values ws) ≤ length ws
+values_few [] = omega arith
+values_few (w ∷ ws) = omega (arith, length-append (second_values w) (all_values second_values ws), one_value w, values_few ws)
+
+pub hart_few : (t : Hart) → length (hart_values t) ≤ 55
+hart_few t = omega (arith, length-append (all_values second_values (first_wants t)) (second_values (Reg 1 (slice_index t.x 1))), values_few (first_wants t), one_value (Reg 1 (slice_index t.x 1)), wants_length t)
+
+pub hart_length : (t : Hart) → length (hart_bytes t) ≡ hart_size t
+unfolding hart_bytes hart_size
+hart_length t = block_length (hart_items t) Insn.Dret (hart_values t) (hart_fixed t)
+
+pub hart_small : (t : Hart) → hart_size t ≤ 1112
+unfolding hart_size
+hart_small t = omega (arith, hart_short t, hart_few t)
+
+pub hart_even : (t : Hart) → hart_size t % 8 ≡ 0
+unfolding hart_size
+hart_even t = let n : ℕ = word_count (hart_items t 0) in omega arith
+
+-- ---- the block of the devices
+
+saves : Bool → Bool → Bool → ℕ → ℕ → Width → ℕ → ℤ → List Spelling
+saves z b c k v w by off =
+    cond z (record { item = Store (size_of w) 0 by off; insns = store_insn w by 0 off ∷ [] } ∷ [])
+    (record { item = Put 6 v; insns = put_insns k 6 v } ∷ record { item = Store (size_of w) 6 by off; insns = store_insn w by 6 off ∷ [] } ∷ [])
+
+save_fixed : (z : Bool) (k v by : ℕ) (w : Width) (off : ℤ) → word_count (saves z true true k v w by off) ≡ word_count (saves z true true 0 v w by off)
+unfolding saves
+save_fixed true k v by w off = refl
+save_fixed false k v by w off = ap (λ n. n + (1 + 0)) (put_fixed k 0 6 v (is_small v) (is_short v))
+
+deed_fixed : (k : ℕ) (d : Deed) → word_count (deed_items k d) ≡ word_count (deed_items 0 d)
+unfolding saves
+deed_fixed k (Aim r v) = refl
+deed_fixed k (Save w v by off at) = save_fixed (v == 0) k v by w off
+deed_fixed k (Again w v by off at) = refl
+deed_fixed k (Read w by off at) = refl
+
+pub deeds_fixed : (k k' : ℕ) (ds : List Deed) → word_count (placed_deeds k ds) ≡ word_count (placed_deeds k' ds)
+deeds_fixed k k' [] = refl
+deeds_fixed k k' (d ∷ ds) =
+    let next : ℕ = k + 8 * length (deed_values d) in
+    let next' : ℕ = k' + 8 * length (deed_values d) in
+    omega (arith, count_append (deed_items k d) (placed_deeds next ds), count_append (deed_items k' d) (placed_deeds next' ds), deed_fixed k d, deed_fixed k' d, deeds_fixed next next' ds)
+
+pub device_fixed : (t : BoardState) (next k : ℕ) → word_count (device_items k t next) ≡ word_count (device_items 0 t next)
+device_fixed t next k =
+    let last : List Spelling = record { item = Put 1 (rom_base + next); insns = far_insns (rom_base + next) } ∷ [] in
+    omega (arith, count_append (placed_deeds k (device_deeds t)) last, count_append (placed_deeds 0 (device_deeds t)) last, deeds_fixed k 0 (device_deeds t))
+
+pub device_count : (t : BoardState) (next : ℕ) → word_count (device_items 0 t next) ≡ word_count (device_items 0 t 0)
+device_count t next = count_append (placed_deeds 0 (device_deeds t)) (record { item = Put 1 (rom_base + next); insns = far_insns (rom_base + next) } ∷ []) ∙ sym (count_append (placed_deeds 0 (device_deeds t)) (record { item = Put 1 (rom_base + 0); insns = far_insns (rom_base + 0) } ∷ []))
+
+pub device_length : (t : BoardState) (next : ℕ) → length (device_bytes t next) ≡ device_size t
+unfolding device_bytes device_size
+device_length t next = block_length (λ k. device_items k t next) (Insn.Jalr 0 1 (pos 0)) (device_values t) (device_fixed t next) ∙ ap (λ n. 4 * rounded (n + 1) + 8 * length (device_values t)) (device_count t next)
+
+put_cost : (b c : Bool) (k v : ℕ) → 4 * length (cond b (Insn.Addi 6 0 (low_part v) ∷ []) (cond c (Insn.Lui 6 (high_part v) ∷ Insn.Addiw 6 6 (low_part v) ∷ []) (Insn.Ld 6 1 (pos k) ∷ []))) + 8 * length (cond b [] (cond c [] (v ∷ []))) ≤ 12
+put_cost true c k v = omega arith
+put_cost false true k v = omega arith
+put_cost false false k v = omega arith
+
+save_cost : (z : Bool) (v by : ℕ) (w : Width) (off : ℤ) → 4 * word_count (saves z true true 0 v w by off) + 8 * length (cond z [] (short_values v)) ≤ 16
+unfolding saves
+save_cost true v by w off = omega arith
+save_cost false v by w off = let e = put_cost (is_small v) (is_short v) 0 v in omega arith
+
+save_words : (z : Bool) (v by : ℕ) (w : Width) (off : ℤ) → word_count (saves z true true 0 v w by off) ≤ 3
+unfolding saves
+save_words true v by w off = omega arith
+save_words false v by w off = let e = put_short 0 6 v (is_small v) (is_short v) in omega arith
+
+deed_cost : (d : Deed) → 4 * word_count (deed_items 0 d) + 8 * length (deed_values d) ≤ 16
+unfolding saves
+deed_cost (Aim r v) = omega arith
+deed_cost (Save w v by off at) = save_cost (v == 0) v by w off
+deed_cost (Again w v by off at) = omega arith
+deed_cost (Read w by off at) = omega arith
+
+deed_words : (d : Deed) → word_count (deed_items 0 d) ≤ 3
+unfolding saves
+deed_words (Aim r v) = omega arith
+deed_words (Save w v by off at) = save_words (v == 0) v by w off
+deed_words (Again w v by off at) = omega arith
+deed_words (Read w by off at) = omega arith
+
+deeds_cost : (ds : List Deed) → 4 * word_count (placed_deeds 0 ds) + 8 * length (all_deed_values ds) ≤ 16 * length ds
+deeds_cost [] = omega arith
+deeds_cost (d ∷ ds) =
+    let next : ℕ = 0 + 8 * length (deed_values d) in
+    omega (arith, count_append (deed_items 0 d) (placed_deeds next ds), deeds_fixed next 0 ds, length-append (deed_values d) (all_deed_values ds), deed_cost d, deeds_cost ds)
+
+deeds_words : (ds : List Deed) → word_count (placed_deeds 0 ds) ≤ 3 * length ds
+deeds_words [] = omega arith
+deeds_words (d ∷ ds) =
+    let next : ℕ = 0 + 8 * length (deed_values d) in
+    omega (arith, count_append (deed_items 0 d) (placed_deeds next ds), deeds_fixed next 0 ds, deed_words d, deeds_words ds)
+
+queue_count : (q : List ℕ) (rest : List Deed) → length (queue_deeds q rest) ≡ length q + length rest
+unfolding queue_deeds
+queue_count [] rest = omega arith
+queue_count (x ∷ q) rest = let e = queue_count q rest in omega arith
+
+context_count : (k c : ℕ) (es ts : List ℕ) (rest : List Deed) → length (context_deeds k c es ts rest) ≡ 3 * k + length rest
+unfolding context_deeds
+context_count zero c es ts rest = omega arith
+context_count (suc k) c es ts rest = let e = context_count k (suc c) es ts rest in omega arith
+
+soft_count : (k h : ℕ) (xs : List ℕ) (rest : List Deed) → length (soft_deeds k h xs rest) ≡ k + length rest
+unfolding soft_deeds
+soft_count zero h xs rest = omega arith
+soft_count (suc k) h xs rest = let e = soft_count k (suc h) xs rest in omega arith
+
+compare_count : (k h : ℕ) (xs : List ℕ) (rest : List Deed) → length (compare_deeds k h xs rest) ≡ k + length rest
+unfolding compare_deeds
+compare_count zero h xs rest = omega arith
+compare_count (suc k) h xs rest = let e = compare_count k (suc h) xs rest in omega arith
+
+timer_count : (t : BoardState) → length (timer_deeds t) ≡ 4 + 2 * hart_count t.clint
+timer_count t =
+    let n : ℕ = hart_count t.clint in
+    let last : List Deed = Aim 5 0x200c000 ∷ Save Double t.clint.mtime 5 (negsuc 7) 0x200bff8 ∷ [] in
+    let more : List Deed = Aim 7 0x2004000 ∷ compare_deeds n 0 t.clint.mtimecmp last in
+    omega (arith, soft_count n 0 t.clint.msip more, compare_count n 0 t.clint.mtimecmp last)
+
+deeds_few : (t : BoardState) → IsFit t → length (device_deeds t) ≤ 100
+deeds_few t fit =
+    let n : ℕ = hart_count t.clint in
+    let ds4 : List Deed = Save Word t.console.ctrl 2 (pos 8) 0x10000008 ∷ Save Double t.console.txaddr 2 (pos 16) 0x10000010 ∷ timer_deeds t in
+    let ds3 : List Deed = context_deeds (contexts_of t.plic) 0 t.plic.enable t.plic.threshold ds4 in
+    let ds2 : List Deed = Save Word (slice_index t.plic.priority 0) 3 (pos 4) 0xc000004 ∷ Save Word (slice_index t.plic.priority 1) 3 (pos 8) 0xc000008 ∷ ds3 in
+    omega (arith, queue_count t.console.queue ds2, context_count (contexts_of t.plic) 0 t.plic.enable t.plic.threshold ds4, timer_count t, fit.console.room, fit.clint.most, fit.contexts)
+
+pub device_words : (t : BoardState) (next : ℕ) → IsFit t → word_count (device_items 0 t next) ≤ 302
+device_words t next fit =
+    omega (arith, count_append (placed_deeds 0 (device_deeds t)) (record { item = Put 1 (rom_base + next); insns = far_insns (rom_base + next) } ∷ []), deeds_words (device_deeds t), deeds_few t fit)
+
+pub device_small : (t : BoardState) → IsFit t → device_size t ≤ 1616
+unfolding device_size
+device_small t fit =
+    omega (arith, count_append (placed_deeds 0 (device_deeds t)) (record { item = Put 1 (rom_base + 0); insns = far_insns (rom_base + 0) } ∷ []), deeds_cost (device_deeds t), deeds_few t fit)
+
+pub device_even : (t : BoardState) → device_size t % 8 ≡ 0
+unfolding device_size
+device_even t = let n : ℕ = word_count (device_items 0 t 0) in omega arith
+
+-- ---- one part after another
+
+pub entry_stands : (ps : List ℕ) (p i : ℕ) (rom : List ℕ) → i < length ps → StandAt (table ps) p rom → StandAt (little_bytes 8 (rom_base + slice_index ps i)) (p + 8 * i) rom
+unfolding table
+entry_stands [] p i rom within there = absurd (omega arith)
+entry_stands (x ∷ ps) p zero rom within there = subst (λ q. StandAt (little_bytes 8 (rom_base + x)) q rom) (omega arith) (stand_first (little_bytes 8 (rom_base + x)) (table ps) p rom there)
+entry_stands (x ∷ ps) p (suc i) rom within there =
+    let place : p + 8 + 8 * i ≡ p + 8 * suc i = omega arith in
+    subst (λ q. StandAt (little_bytes 8 (rom_base + slice_index ps i)) q rom) place (entry_stands ps (p + 8) i rom (omega arith) (stand_second (little_bytes 8 (rom_base + x)) (table ps) p rom there))
+
+pub table_length : (ps : List ℕ) → length (table ps) ≡ 8 * length ps
+unfolding table
+table_length [] = refl
+table_length (x ∷ ps) = let e = table_length ps in omega (arith, length-append (little_bytes 8 (rom_base + x)) (table ps))
+
+pub starts_length : (p : ℕ) (ts : List Hart) → length (starts p ts) ≡ length ts
+unfolding starts
+starts_length p [] = refl
+starts_length p (t ∷ ts) = ap (λ n. suc n) (starts_length (p + hart_size t) ts)
+
+pub block_stands : (ts : List Hart) (p i : ℕ) (d : Hart) (rom : List ℕ) → i < length ts → StandAt (all_blocks ts) p rom → StandAt (hart_bytes (get_or ts i d)) (slice_index (starts p ts) i) rom
+unfolding starts all_blocks
+block_stands [] p i d rom within there = absurd (omega arith)
+block_stands (t ∷ ts) p zero d rom within there = stand_first (hart_bytes t) (all_blocks ts) p rom there
+block_stands (t ∷ ts) p (suc i) d rom within there = block_stands ts (p + hart_size t) i d rom (omega arith) (subst (λ q. StandAt (all_blocks ts) q rom) (ap (λ n. p + n) (hart_length t)) (stand_second (hart_bytes t) (all_blocks ts) p rom there))
+
+pub blocks_length : (ts : List Hart) → length (all_blocks ts) ≤ 1112 * length ts
+unfolding all_blocks
+blocks_length [] = omega arith
+blocks_length (t ∷ ts) = omega (arith, length-append (hart_bytes t) (all_blocks ts), hart_length t, hart_small t, blocks_length ts)
+
+pub start_even : (ts : List Hart) (p i : ℕ) → p % 8 ≡ 0 → i < length ts → slice_index (starts p ts) i % 8 ≡ 0
+unfolding starts
+start_even [] p i even within = absurd (omega arith)
+start_even (t ∷ ts) p zero even within = even
+start_even (t ∷ ts) p (suc i) even within = start_even ts (p + hart_size t) i (omega (arith, hart_even t)) (omega arith)
+
+pub start_small : (ts : List Hart) (p i : ℕ) → i < length ts → slice_index (starts p ts) i ≤ p + 1112 * i
+unfolding starts
+start_small [] p i within = absurd (omega arith)
+start_small (t ∷ ts) p zero within = omega arith
+start_small (t ∷ ts) p (suc i) within = let e = start_small ts (p + hart_size t) i (omega arith) in omega (arith, hart_small t)
+
+pub first_start : (ts : List Hart) (p : ℕ) → 0 < length ts → slice_index (starts p ts) 0 ≡ p
+unfolding starts
+first_start [] p some = absurd (omega arith)
+first_start (t ∷ ts) p some = refl

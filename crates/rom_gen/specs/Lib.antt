@@ -1,0 +1,9 @@
+pub mod Items
+pub mod Restoring
+pub mod Layout
+pub mod Wants
+pub mod HartWants
+pub mod Deeds
+pub mod DeviceBlock
+pub mod Rom
+pub mod Writing
