@@ -1,16 +1,16 @@
 -- Each hart in turn leaves debug mode.
-use Rattle.std.proofs.Common.{◌≡◌, ℕ, zero, suc, ◌+◌, ◌<◌, ◌≤◌, Bool, true, false, cond, ◌||◌, List, [], ◌∷◌, length, refl, sym, ap, ◌∙◌, arith}
-use Rattle.std.specs.Prelude.{None, slice_set, if◌then◌else◌}
+use Rattle.std.proofs.Common.{◌≡◌, ℕ, zero, suc, ◌+◌, ◌<◌, ◌≤◌, Bool, true, false, cond, ◌||◌, List, [], ◌∷◌, length, refl, sym, ap, ◌∙◌, arith, ⊎_elim}
+use Rattle.std.specs.Prelude.{None, slice_set}
 use Rattle.std.specs.List.{list_any}
 use Rattle.std.proofs.Math.ListN.{set, get_or}
 use Rattle.std.proofs.lemmas.List.{get_or-set_same, get_or-set_other, length-set}
-use Rattle.std.proofs.Common.{⊎_elim}
 use Rattle.std.proofs.lemmas.Bool.{cases_eq}
 use Rattle.board_bus.specs.Board.{BoardState}
 use Rattle.hart_step.specs.declared.hart.Hart.{Hart}
 use Rattle.hart_step.specs.Harts.{hart_of, is_in_debug, reset_hart}
 use Rattle.hart_turns.specs.Boot.{Booted, Booting, Frees, boot_hart, boot_harts, boots_next, most_steps}
 use Rattle.hart_turns.proofs.BootSteps.{frees_within}
+use Rattle.rom_gen.specs.ItemEffects.{rom_while}
 
 -- the harts after the first n of them became their targets
 unfoldable pub half : (ℕ → Hart) → List Hart → ℕ → List Hart
@@ -40,10 +40,6 @@ some_any : (hs : List Hart) (i : ℕ) (d : Hart) → i < length hs → is_in_deb
 some_any [] i d inside debugs = absurd (omega arith)
 some_any (x ∷ hs) zero d inside debugs = ap (λ b. b || list_any is_in_debug hs) debugs
 some_any (x ∷ hs) (suc i) d inside debugs = ap (λ b. is_in_debug x || b) (some_any hs i d (omega arith) debugs) ∙ either (is_in_debug x)
-
--- the ROM while a hart is in debug mode
-abbrev pub rom_while : List Hart → List ℕ → List ℕ
-rom_while harts rom = if list_any is_in_debug harts then rom else []
 
 abbrev pub total : (ℕ → ℕ) → ℕ → ℕ
 total count zero = 0

@@ -1,5 +1,5 @@
 -- The parts of the ROM, one after another.
-use Rattle.std.proofs.Common.{◌≡◌, ℕ, zero, suc, ◌+◌, ◌*◌, ◌<◌, ◌≤◌, ⊎_elim, true, cond, List, [], ◌∷◌, ◌++◌, length, take, sym, ap, ◌∙◌, arith, subst, append_assoc, length-append, ◌==◌, eq-eqb}
+use Rattle.std.proofs.Common.{◌≡◌, ℕ, zero, suc, ◌+◌, ◌*◌, ◌<◌, ◌≤◌, ⊎_elim, true, cond, List, [], ◌∷◌, ◌++◌, length, take, sym, ap, ◌∙◌, arith, subst, append_assoc, length-append, ◌==◌, eq-eqb, add_assoc, refl}
 use Rattle.std.specs.Prelude.{slice_index}
 use Rattle.std.proofs.Math.ListN.{get_or}
 use Rattle.std.proofs.Math.Seq.{take-length}
@@ -9,19 +9,20 @@ use Rattle.byteorder.specs.Endian.{little_bytes}
 use Rattle.rv_decode.specs.Encode.{encoded, word_long, word_r}
 use Rattle.board_bus.specs.Board.{BoardState}
 use Rattle.hart_step.specs.declared.hart.Hart.{Hart}
-use Rattle.hart_step.specs.Harts.{reset_hart}
+use Rattle.hart_step.specs.Harts.{reset_hart, CoreState}
 use Rattle.hart_step.specs.Memory.{most_rom, rom_base}
-use Rattle.hart_step.specs.Harts.{CoreState}
 use Rattle.hart_turns.specs.Machine.{MachineState, is_running}
 use Rattle.hart_turns.specs.Fit.{IsFit}
 use Rattle.rom_gen.proofs.AllHarts.{total}
 use Rattle.rom_gen.specs.Items.{code}
-use Rattle.rom_gen.specs.Rom.{Restores, all_blocks, device_bytes, device_place, dispatch_insns, first_place, hart_bytes, places, rom_bytes, starts, table, hart_size}
-use Rattle.rom_gen.proofs.Restores.{places_length, restores, steps_of}
+use Rattle.rom_gen.specs.Executed.{Restores}
+use Rattle.rom_gen.specs.Rom.{all_blocks, device_bytes, device_place, dispatch_insns, first_place, hart_bytes, start_places, rom_bytes, block_places, table, hart_size, addresses, dispatch_bytes}
+use Rattle.rom_gen.proofs.Restores.{places_length, restores, steps_of, address_at, addresses_length}
 use Rattle.rom_gen.proofs.RomParts.{hart_length, hart_small, starts_length}
+use Rattle.hart_turns.specs.Boot.{booted}
 
-start_is : (ts : List Hart) (p i : ℕ) → i < length ts → slice_index (starts p ts) i ≡ p + length (all_blocks (take i ts))
-unfolding starts all_blocks
+start_is : (ts : List Hart) (p i : ℕ) → i < length ts → slice_index (block_places p ts) i ≡ p + length (all_blocks (take i ts))
+unfolding block_places all_blocks
 start_is [] p i within = absurd (omega arith)
 start_is (t ∷ ts) p zero within = omega arith
 start_is (t ∷ ts) p (suc i) within = omega (arith, start_is ts (p + hart_size t) i (omega arith), length-append (hart_bytes t) (all_blocks (take i ts)), hart_length t)
@@ -31,22 +32,37 @@ unfolding all_blocks
 blocks_more [] t = append-nil (hart_bytes t)
 blocks_more (x ∷ ts) t = ap (λ bs. hart_bytes x ++ bs) (blocks_more ts t) ∙ sym (append_assoc (hart_bytes x) (all_blocks ts) (hart_bytes t))
 
-table_more : (ps : List ℕ) (p : ℕ) → table (ps ++ p ∷ []) ≡ table ps ++ little_bytes 8 (rom_base + p)
+pub table_more : (starts : List ℕ) (v : ℕ) → table (starts ++ v ∷ []) ≡ table starts ++ little_bytes 8 v
 unfolding table
-table_more [] p = append-nil (little_bytes 8 (rom_base + p))
-table_more (x ∷ ps) p = ap (λ bs. little_bytes 8 (rom_base + x) ++ bs) (table_more ps p) ∙ sym (append_assoc (little_bytes 8 (rom_base + x)) (table ps) (little_bytes 8 (rom_base + p)))
+table_more [] v = append-nil (little_bytes 8 v)
+table_more (x ∷ starts) v = ap (λ bs. little_bytes 8 x ++ bs) (table_more starts v) ∙ sym (append_assoc (little_bytes 8 x) (table starts) (little_bytes 8 v))
 
-place_at : (t : BoardState) (ts : List Hart) (i v : ℕ) → i < length ts → v ≡ cond (i == 0) (65536 + (24 + 8 * length ts)) (65536 + (first_place t ts + length (all_blocks (take i ts)))) → v ≡ rom_base + slice_index (places t ts) i
-place_at t ts i v within is = is ∙ ⊎_elim
-    (λ e. ap (λ b. cond b (65536 + (24 + 8 * length ts)) (65536 + (first_place t ts + length (all_blocks (take i ts))))) (eq-eqb i 0 e) ∙ ap (λ q. rom_base + q) (sym (ap (slice_index (places t ts)) e ∙ get_or-set_same (starts (first_place t ts) ts) 0 (device_place ts) 0 (omega (arith, starts_length (first_place t ts) ts)))))
-    (λ n. ap (λ b. cond b (65536 + (24 + 8 * length ts)) (65536 + (first_place t ts + length (all_blocks (take i ts))))) (ne_eqb i 0 n) ∙ ap (λ q. rom_base + q) (sym (get_or-set_other (starts (first_place t ts) ts) 0 i (device_place ts) 0 n ∙ start_is ts (first_place t ts) i within)))
+-- one entry more
+pub entry_added : (starts old new : List ℕ) (i : ℕ) → i < length starts → old ≡ code dispatch_insns ++ table (take i starts) → new ≡ old ++ little_bytes 8 (slice_index starts i) → new ≡ code dispatch_insns ++ table (take (i + 1) starts)
+entry_added starts old new i within old_is new_is =
+    new_is ∙ ap (λ x. x ++ little_bytes 8 (slice_index starts i)) old_is
+    ∙ append_assoc (code dispatch_insns) (table (take i starts)) (little_bytes 8 (slice_index starts i))
+    ∙ ap (λ x. code dispatch_insns ++ x) (sym (ap table (take_more starts i 0 within) ∙ table_more (take i starts) (slice_index starts i)))
+
+-- and then all
+pub all_entries : (starts out : List ℕ) (n : ℕ) → n ≤ length starts → length starts ≤ n → out ≡ code dispatch_insns ++ table (take n starts) → out ≡ code dispatch_insns ++ table starts
+all_entries starts out n below above is =
+    let end : n ≡ length starts = omega arith in
+    is ∙ ap (λ xs. code dispatch_insns ++ table xs) (ap (λ k. take k starts) end ∙ take-length starts)
+
+start_at : (t : BoardState) (ts : List Hart) (i v : ℕ) → i < length ts → v ≡ cond (i == 0) (65560 + 8 * length ts) (rom_base + first_place t ts + length (all_blocks (take i ts))) → v ≡ rom_base + slice_index (start_places t ts) i
+start_at t ts i v within is = is ∙ ⊎_elim
+    (λ e. ap (λ b. cond b (65560 + 8 * length ts) (rom_base + first_place t ts + length (all_blocks (take i ts)))) (eq-eqb i 0 e) ∙ omega arith ∙ ap (λ q. rom_base + q) (sym (ap (slice_index (start_places t ts)) e ∙ get_or-set_same (block_places (first_place t ts) ts) 0 (device_place ts) 0 (omega (arith, starts_length (first_place t ts) ts)))))
+    (λ n. ap (λ b. cond b (65560 + 8 * length ts) (rom_base + first_place t ts + length (all_blocks (take i ts)))) (ne_eqb i 0 n) ∙ add_assoc rom_base (first_place t ts) (length (all_blocks (take i ts))) ∙ ap (λ q. rom_base + q) (sym (get_or-set_other (block_places (first_place t ts) ts) 0 i (device_place ts) 0 n ∙ start_is ts (first_place t ts) i within)))
     (cases_eq i 0)
 
-pub table_goes_on : (t : BoardState) (ts : List Hart) (i v n first before : ℕ) (old new : List ℕ) → i < length ts → n ≡ length ts → first ≡ first_place t ts → before ≡ length (all_blocks (take i ts)) → v ≡ cond (i == 0) (65536 + (24 + 8 * n)) (65536 + (first + before)) → old ≡ table (take i (places t ts)) → new ≡ old ++ little_bytes 8 v → new ≡ table (take (i + 1) (places t ts))
-table_goes_on t ts i v n first before old new within n_is first_is before_is is old_is new_is =
-    let v_is : v ≡ rom_base + slice_index (places t ts) i = place_at t ts i v within (is ∙ ap (λ k. cond (i == 0) (65536 + (24 + 8 * k)) (65536 + (first + before))) n_is ∙ ap (λ k. cond (i == 0) (65536 + (24 + 8 * length ts)) (65536 + (k + before))) first_is ∙ ap (λ k. cond (i == 0) (65536 + (24 + 8 * length ts)) (65536 + (first_place t ts + k))) before_is) in
-    new_is ∙ ap (λ x. x ++ little_bytes 8 v) old_is ∙ ap (λ x. table (take i (places t ts)) ++ little_bytes 8 x) v_is
-    ∙ sym (ap table (take_more (places t ts) i 0 (omega (arith, places_length t ts))) ∙ table_more (take i (places t ts)) (slice_index (places t ts) i))
+-- one start more
+pub start_added : (t : BoardState) (ts : List Hart) (i v n first before : ℕ) (old new : List ℕ) → i < length ts → n ≡ length ts → first ≡ rom_base + first_place t ts → before ≡ length (all_blocks (take i ts)) → v ≡ cond (i == 0) (65560 + 8 * n) (first + before) → old ≡ take i (addresses (start_places t ts)) → new ≡ old ++ v ∷ [] → new ≡ take (i + 1) (addresses (start_places t ts))
+start_added t ts i v n first before old new within n_is first_is before_is is old_is new_is =
+    let starts : List ℕ = addresses (start_places t ts) in
+    let given : v ≡ cond (i == 0) (65560 + 8 * length ts) (rom_base + first_place t ts + length (all_blocks (take i ts))) = is ∙ ap (λ k. cond (i == 0) (65560 + 8 * k) (first + before)) n_is ∙ ap (λ k. cond (i == 0) (65560 + 8 * length ts) (k + before)) first_is ∙ ap (λ k. cond (i == 0) (65560 + 8 * length ts) (rom_base + first_place t ts + k)) before_is in
+    let v_is : v ≡ slice_index starts i = start_at t ts i v within given ∙ sym (address_at (start_places t ts) i 0 (omega (arith, places_length t ts))) in
+    new_is ∙ ap (λ x. x ++ v ∷ []) old_is ∙ ap (λ x. take i starts ++ x ∷ []) v_is ∙ sym (take_more starts i 0 (omega (arith, addresses_length t ts)))
 
 pub blocks_go_on : (ts : List Hart) (i : ℕ) (t : Hart) (old block new : List ℕ) → i < length ts → t ≡ get_or ts i (reset_hart 0 0) → old ≡ all_blocks (take i ts) → block ≡ hart_bytes t → new ≡ old ++ block → new ≡ all_blocks (take (i + 1) ts)
 blocks_go_on ts i t old block new within t_is old_is block_is new_is =
@@ -66,20 +82,30 @@ dispatch_is a b c d e f g e1 e2 e3 e4 e5 e6 =
     ∙ append_assoc (a ++ little_bytes 4 0x00000097) (little_bytes 4 0xf1402173) (little_bytes 4 0x00311113 ++ (little_bytes 4 0x002080b3 ++ (little_bytes 4 0x0180b083 ++ little_bytes 4 0x00008067)))
     ∙ append_assoc a (little_bytes 4 0x00000097) (little_bytes 4 0xf1402173 ++ (little_bytes 4 0x00311113 ++ (little_bytes 4 0x002080b3 ++ (little_bytes 4 0x0180b083 ++ little_bytes 4 0x00008067))))
 
-pub rom_assembled : (t : BoardState) (ts : List Hart) (first : ℕ) (dispatch tab device blocks a b c : List ℕ) → first ≡ first_place t ts → dispatch ≡ code dispatch_insns → tab ≡ table (take (length ts) (places t ts)) → device ≡ device_bytes t first → blocks ≡ all_blocks (take (length ts) ts) → a ≡ dispatch ++ tab → b ≡ a ++ device → c ≡ b ++ blocks → c ≡ rom_bytes t ts
-rom_assembled t ts first dispatch tab device blocks a b c first_is d_is t_is e_is b_is e1 e2 e3 =
-    let whole : take (length ts) (places t ts) ≡ places t ts = ap (λ n. take n (places t ts)) (sym (places_length t ts)) ∙ take-length (places t ts) in
-    let all : take (length ts) ts ≡ ts = take-length ts in
-    e3 ∙ ap (λ x. x ++ blocks) (e2 ∙ ap (λ x. x ++ device) e1)
-    ∙ append_assoc (dispatch ++ tab) device blocks ∙ append_assoc dispatch tab (device ++ blocks)
-    ∙ ap (λ x. x ++ (tab ++ (device ++ blocks))) d_is
-    ∙ ap (λ x. code dispatch_insns ++ (x ++ (device ++ blocks))) (t_is ∙ ap table whole)
-    ∙ ap (λ x. code dispatch_insns ++ (table (places t ts) ++ (x ++ blocks))) (e_is ∙ ap (device_bytes t) first_is)
-    ∙ ap (λ x. code dispatch_insns ++ (table (places t ts) ++ (device_bytes t (first_place t ts) ++ x))) (b_is ∙ ap all_blocks all)
+pub starts_count : (t : BoardState) (ts : List Hart) (starts : List ℕ) (n : ℕ) → n ≡ length ts → starts ≡ take n (addresses (start_places t ts)) → length starts ≡ length ts
+starts_count t ts starts n n_is is =
+    let all : List ℕ = addresses (start_places t ts) in
+    ap length (is ∙ ap (λ k. take k all) (n_is ∙ sym (addresses_length t ts)) ∙ take-length all) ∙ addresses_length t ts
 
--- the bytes that were written, of a machine's harts and devices
+pub rom_assembled : (t : BoardState) (ts : List Hart) (first : ℕ) (starts dispatch device blocks b c : List ℕ) → first ≡ rom_base + first_place t ts → starts ≡ take (length ts) (addresses (start_places t ts)) → dispatch ≡ dispatch_bytes starts → device ≡ device_bytes t first → blocks ≡ all_blocks (take (length ts) ts) → b ≡ dispatch ++ device → c ≡ b ++ blocks → c ≡ rom_bytes t ts
+rom_assembled t ts first starts dispatch device blocks b c first_is starts_is dispatch_is device_is blocks_is b_is c_is =
+    let all : List ℕ = addresses (start_places t ts) in
+    let whole : take (length ts) all ≡ all = ap (λ n. take n all) (sym (addresses_length t ts)) ∙ take-length all in
+    c_is ∙ ap (λ x. x ++ blocks) b_is
+    ∙ append_assoc dispatch device blocks
+    ∙ ap (λ x. x ++ (device ++ blocks)) (dispatch_is ∙ ap dispatch_bytes (starts_is ∙ whole))
+    ∙ ap (λ x. dispatch_bytes all ++ (x ++ blocks)) (device_is ∙ ap (device_bytes t) first_is)
+    ∙ ap (λ x. dispatch_bytes all ++ (device_bytes t (rom_base + first_place t ts) ++ x)) (blocks_is ∙ ap all_blocks (take-length ts))
+
+-- the ROM of a running machine restores it
+pub rom_restores : (m : MachineState) → IsFit m → is_running m ≡ true → (length (rom_bytes m.board m.core.harts) ≤ most_rom) × Restores m (rom_bytes m.board m.core.harts)
+unfolding booted
+rom_restores m fit running =
+    let whole = restores m fit running in
+    (whole.0, (total (steps_of m.board m.core.harts) m.shape.harts, record { shape = refl; taken = refl; boots = whole.1 }))
+
+-- and so do the bytes that were written, of its harts and devices
 pub bytes_restore : (m : MachineState) (b : BoardState) (c : CoreState) (bytes : List ℕ) → IsFit m → is_running m ≡ true → b ≡ m.board → c ≡ m.core → bytes ≡ rom_bytes b c.harts → (length bytes ≤ most_rom) × Restores m bytes
 bytes_restore m b c bytes fit running b_is c_is bytes_is =
     let is : bytes ≡ rom_bytes m.board m.core.harts = bytes_is ∙ ap (λ (x : CoreState). rom_bytes b x.harts) c_is ∙ ap (λ x. rom_bytes x m.core.harts) b_is in
-    let whole = restores m fit running in
-    subst (λ x. (length x ≤ most_rom) × Restores m x) (sym is) (whole.0, (total (steps_of m.board m.core.harts) m.shape.harts, whole.1))
+    subst (λ x. (length x ≤ most_rom) × Restores m x) (sym is) (rom_restores m fit running)

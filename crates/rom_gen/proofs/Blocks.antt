@@ -6,7 +6,8 @@ use Rattle.hart_step.specs.declared.hart.Hart.{Hart}
 use Rattle.hart_step.specs.Harts.{hart_of, reset_hart}
 use Rattle.hart_step.specs.Step.{is_touched, without_reservation}
 use Rattle.hart_turns.specs.Boot.{Booting}
-use Rattle.rom_gen.specs.Items.{Item, Put, Csr, CsrImm, Store, Load, Go, Spelling, all_do, becomes, does, hart_after, word_count}
+use Rattle.rom_gen.specs.Items.{Item, Put, Csr, CsrImm, Store, Load, Go, Spelling, word_count, Leave}
+use Rattle.rom_gen.specs.ItemEffects.{all_do, becomes, does, hart_after}
 use Rattle.rom_gen.specs.Wants.{AllInner, IsInner, hart_all}
 
 inner_does : (h n : ℕ) (item : Item) (b : Booting) → IsInner item → does h n item b ≡ becomes h n (hart_after n item (hart_of b.core h)) b
@@ -16,6 +17,7 @@ inner_does h n (CsrImm num u) b inner = refl
 inner_does h n (Go r) b inner = absurd inner
 inner_does h n (Store size r at off) b inner = absurd inner
 inner_does h n (Load size r at off) b inner = absurd inner
+inner_does h n Leave b inner = absurd inner
 
 pub becomes_again : (h n m : ℕ) (first second : Hart) (b : Booting) → becomes h m second (becomes h n first b) ≡ becomes h (n + m) second b
 becomes_again h n m first second b =

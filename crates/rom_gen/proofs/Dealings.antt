@@ -7,23 +7,20 @@ use Rattle.byteorder.specs.Endian.{little_bytes}
 use Rattle.rv_decode.specs.declared.Insn.{Insn}
 use Rattle.rv_decode.specs.Encode.{encoded}
 use Rattle.rom_gen.specs.Items.{Put, Spelling, Store, Width, Byte, Word, Double, all_insns, code, size_of, store_insn}
-use Rattle.rom_gen.specs.Wants.{put_insns, short_values}
+use Rattle.rom_gen.specs.Wants.{put_insns, put_values, high_part, low_part}
 use Rattle.rom_gen.specs.Deeds.{Deed, Aim, Save, Again, Read, all_deed_values, deed_items, deed_values, placed_deeds}
 use Rattle.rom_gen.specs.DeviceBlock.{compare_deeds, context_deeds, device_deeds, marks_deeds, queue_deeds, soft_deeds, timer_deeds}
 use Rattle.rom_gen.specs.Writing.{Adds, Dealt, offset_of}
 use Rattle.rom_gen.specs.declared.writer.Writer.{Writer}
 use Rattle.plic.specs.State.{context_count as contexts_of}
 use Rattle.board_bus.specs.Board.{BoardState, IsFit}
-use Rattle.hart_step.specs.Memory.{rom_base}
-use Rattle.rom_gen.specs.Wants.{high_part, low_part}
 use Rattle.rom_gen.specs.Rom.{device_bytes, device_items, device_values, far_insns, padding, pool_place}
 use Rattle.rom_gen.proofs.RomParts.{device_fixed, device_words}
-use Rattle.rom_gen.proofs.Writings.{block_written, drafted}
+use Rattle.rom_gen.proofs.Writings.{block_written, drafted, adds_join, insns_append, offset_on}
 use Rattle.clint.specs.State.{ClintRegisters, hart_count}
 use Rattle.clint.specs.Access.{loaded}
 use Rattle.clint.specs.Layout.{register_at}
 use Rattle.rom_gen.proofs.Contexts.{row_is}
-use Rattle.rom_gen.proofs.Writings.{adds_join, insns_append, offset_on}
 
 -- one more word
 pub one_adds : (a b : Writer) (insn : Insn) (n : ℕ) → n ≡ encoded insn → b.code.items ≡ a.code.items ++ little_bytes 4 n → b.pool.items ≡ a.pool.items → b.place ≡ a.place → Adds a b (insn ∷ []) []
@@ -33,13 +30,13 @@ one_adds a b insn n is code_is pool_is place_is = record {
   place = place_is;
 }
 
-save_as : (z : Bool) (a d : Writer) (w : Width) (v by : ℕ) (off : ℤ) → z ≡ false → Adds a d (put_insns (offset_of a) 6 v ++ store_insn w by 6 off ∷ []) (short_values v ++ []) → Adds a d (all_insns (cond z (record { item = Store (size_of w) 0 by off; insns = store_insn w by 0 off ∷ [] } ∷ []) (record { item = Put 6 v; insns = put_insns (offset_of a) 6 v } ∷ record { item = Store (size_of w) 6 by off; insns = store_insn w by 6 off ∷ [] } ∷ []))) (cond z [] (short_values v))
+save_as : (z : Bool) (a d : Writer) (w : Width) (v by : ℕ) (off : ℤ) → z ≡ false → Adds a d (put_insns (offset_of a) 6 v ++ store_insn w by 6 off ∷ []) (put_values v ++ []) → Adds a d (all_insns (cond z (record { item = Store (size_of w) 0 by off; insns = store_insn w by 0 off ∷ [] } ∷ []) (record { item = Put 6 v; insns = put_insns (offset_of a) 6 v } ∷ record { item = Store (size_of w) 6 by off; insns = store_insn w by 6 off ∷ [] } ∷ []))) (cond z [] (put_values v))
 save_as true a d w v by off is adds = absurd (cc)
-save_as false a d w v by off is adds = subst (λ x. Adds a d (put_insns (offset_of a) 6 v ++ store_insn w by 6 off ∷ []) x) (append-nil (short_values v)) adds
+save_as false a d w v by off is adds = subst (λ x. Adds a d (put_insns (offset_of a) 6 v ++ store_insn w by 6 off ∷ []) x) (append-nil (put_values v)) adds
 
-pub save_adds : (a b d : Writer) (w : Width) (v by n : ℕ) (off : ℤ) → v ≢ 0 → Adds a b (put_insns (offset_of a) 6 v) (short_values v) → n ≡ encoded (store_insn w by 6 off) → d.code.items ≡ b.code.items ++ little_bytes 4 n → d.pool.items ≡ b.pool.items → d.place ≡ b.place → Adds a d (all_insns (deed_items (offset_of a) (Save w v by off 0))) (deed_values (Save w v by off 0))
+pub save_adds : (a b d : Writer) (w : Width) (v by n : ℕ) (off : ℤ) → v ≢ 0 → Adds a b (put_insns (offset_of a) 6 v) (put_values v) → n ≡ encoded (store_insn w by 6 off) → d.code.items ≡ b.code.items ++ little_bytes 4 n → d.pool.items ≡ b.pool.items → d.place ≡ b.place → Adds a d (all_insns (deed_items (offset_of a) (Save w v by off 0))) (deed_values (Save w v by off 0))
 save_adds a b d w v by n off some put is code_is pool_is place_is =
-    save_as (v == 0) a d w v by off (ne_eqb v 0 some) (adds_join a b d (put_insns (offset_of a) 6 v) (store_insn w by 6 off ∷ []) (short_values v) [] put (one_adds b d (store_insn w by 6 off) n is code_is pool_is place_is))
+    save_as (v == 0) a d w v by off (ne_eqb v 0 some) (adds_join a b d (put_insns (offset_of a) 6 v) (store_insn w by 6 off ∷ []) (put_values v) [] put (one_adds b d (store_insn w by 6 off) n is code_is pool_is place_is))
 
 -- ---- lists of deeds
 
@@ -239,13 +236,13 @@ devices_dealt t v0 v1 v2 v3 v4 v5 v6 v7 v8 v9 v10 v11 v12 v13 p1 p2 p3 p4 p5 p6 
 pub far_adds : (a b d : Writer) (v n m : ℕ) → n ≡ encoded (Insn.Lui 1 (high_part v)) → m ≡ encoded (Insn.Addiw 1 1 (low_part v)) → b.code.items ≡ a.code.items ++ little_bytes 4 n → b.pool.items ≡ a.pool.items → b.place ≡ a.place → d.code.items ≡ b.code.items ++ little_bytes 4 m → d.pool.items ≡ b.pool.items → d.place ≡ b.place → Adds a d (far_insns v) []
 far_adds a b d v n m n_is m_is c1 p1 l1 c2 p2 l2 = adds_join a b d (Insn.Lui 1 (high_part v) ∷ []) (Insn.Addiw 1 1 (low_part v) ∷ []) [] [] (one_adds a b (Insn.Lui 1 (high_part v)) n n_is c1 p1 l1) (one_adds b d (Insn.Addiw 1 1 (low_part v)) m m_is c2 p2 l2)
 
-pub device_adds : (t : BoardState) (next : ℕ) (a b d : Writer) → Dealt a b (device_deeds t) → Adds b d (far_insns (rom_base + next)) [] → Adds a d (all_insns (device_items (offset_of a) t next)) (device_values t)
+pub device_adds : (t : BoardState) (next : ℕ) (a b d : Writer) → Dealt a b (device_deeds t) → Adds b d (far_insns next) [] → Adds a d (all_insns (device_items (offset_of a) t next)) (device_values t)
 device_adds t next a b d dealt far =
     let items : List Spelling = placed_deeds (offset_of a) (device_deeds t) in
-    let last : List Spelling = record { item = Put 1 (rom_base + next); insns = far_insns (rom_base + next) } ∷ [] in
+    let last : List Spelling = record { item = Put 1 next; insns = far_insns next } ∷ [] in
     subst (λ x. Adds a d x (device_values t)) (sym (insns_append items last))
     (subst (λ x. Adds a d (all_insns items ++ all_insns last) x) (append-nil (device_values t))
-    (adds_join a b d (all_insns items) (all_insns last) (all_deed_values (device_deeds t)) [] dealt (subst (λ x. Adds b d x []) (sym (append-nil (far_insns (rom_base + next)))) far)))
+    (adds_join a b d (all_insns items) (all_insns last) (all_deed_values (device_deeds t)) [] dealt (subst (λ x. Adds b d x []) (sym (append-nil (far_insns next))) far)))
 
 pub device_drafted : (t : BoardState) (next : ℕ) (a b : Writer) → IsFit t → a.code.items ≡ [] → Adds a b (all_insns (device_items (offset_of a) t next)) (device_values t) → length b.code.items ≤ 1208
 device_drafted t next a b fit none adds = omega (arith, drafted (λ k. device_items k t next) (device_values t) a b (device_fixed t next) none adds, device_words t next fit)

@@ -18,13 +18,15 @@ use Rattle.hart_step.specs.Effects.{at_pc, offset_by, pc_after, with_write}
 use Rattle.hart_step.specs.Step.{memory_of}
 use Rattle.hart_turns.specs.Gives.{board_device}
 use Rattle.hart_turns.specs.Boot.{Booting}
-use Rattle.rom_gen.specs.Items.{AllSpelled, Put, Store, Load, Spelled, Spelling, StandAt, Width, all_do, does, extended, load, load_insn, loads, size_of, store, store_insn, stores, upper, word_count}
-use Rattle.rom_gen.specs.Wants.{is_short, is_small, pool, put_insns, short_values}
-use Rattle.rom_gen.specs.Deeds.{Deed, Aim, Save, Again, Read, IsReached, IsSound, Known, Runs, all_deed_values, board_after_deed, deed_items, deed_values, known_after, known_all, knows, placed_deeds}
+use Rattle.rom_gen.specs.ItemEffects.{AllSpelled, all_do, does, extended, loads, stores, moved}
+use Rattle.rom_gen.specs.Items.{Put, Store, Load, Spelled, Spelling, StandAt, Width, load, load_insn, size_of, store, store_insn, upper, word_count}
+use Rattle.rom_gen.specs.Wants.{is_short, is_small, pool, put_insns, put_values, Pooled}
+use Rattle.rom_gen.specs.Deeds.{Deed, Aim, Save, Again, Read, all_deed_values, deed_items, deed_values, placed_deeds}
+use Rattle.rom_gen.proofs.Runs.{IsReached, IsSound, Known, Runs, board_after_deed, known_after, known_all, knows}
 use Rattle.rom_gen.proofs.Blocks.{nothing_lost}
 use Rattle.rom_gen.proofs.ItemSteps.{put_is, stand_first, stand_second}
 use Rattle.rom_gen.proofs.Placed.{pool_append, pool_length, spelled_append}
-use Rattle.rom_gen.proofs.SecondLayout.{put_spelled}
+use Rattle.rom_gen.proofs.WantLayout.{put_spelled}
 
 -- a hart at work in a block
 pub record WorksHart (hart : Hart) (block : ℕ) (known : Known) (csrs : Registers) : Type 0 where
@@ -39,10 +41,6 @@ pub record Works (b : Booting) (h block : ℕ) (known : Known) (csrs : Registers
   pub inside : h < length b.core.harts
   pub hart : WorksHart (hart_of b.core h) block known csrs
   pub free : All (λ (x : Hart). x.reservation ≡ None) b.core.harts
-
--- hart h becomes another n steps later, and the devices others
-abbrev pub moved : ℕ → ℕ → Hart → BoardState → Booting → Booting
-moved h n hart board b = record { core = record b.core { harts = slice_set b.core.harts h hart }; board = board; console = b.console; steps = b.steps + n }
 
 pub record Did (b : Booting) (h block : ℕ) (items : List Spelling) (known : Known) (csrs : Registers) (board : BoardState) : Type 0 where
   pub hart : Hart
@@ -166,19 +164,12 @@ reached_on {w = w} {off = off} {at = at} same from reached = record {
   listed = ap (λ n. is_listed n at (size_of w)) same ∙ reached.listed;
 }
 
--- where the block stands, and what of its pool
-pub record Pooled (block k : ℕ) (values : List ℕ) (rom : List ℕ) : Type 0 where
-  pub aligned : block % 8 ≡ 0
-  pub even : k % 8 ≡ 0
-  pub room : k + 8 * length values ≤ 2048
-  pub there : StandAt (pool values) (block + k) rom
-
 abbrev save_items : Bool → ℕ → Width → ℕ → ℕ → ℤ → List Spelling
 save_items c k w v by off =
     cond c (record { item = Store (size_of w) 0 by off; insns = store_insn w by 0 off ∷ [] } ∷ [])
     (record { item = Put 6 v; insns = put_insns k 6 v } ∷ record { item = Store (size_of w) 6 by off; insns = store_insn w by 6 off ∷ [] } ∷ [])
 
-save_does : (c : Bool) (b : Booting) (h block k v by at : ℕ) (w : Width) (off : ℤ) (known : Known) (csrs : Registers) → (v == 0) ≡ c → Works b h block known csrs → v < 2 ^ 64 → IsReached (length b.core.harts) known w by off at → sent b.core.ram b.board at (size_of w) (low_bytes (size_of w) v) ≡ [] → Pooled block k (cond c [] (short_values v)) b.core.rom →
+save_does : (c : Bool) (b : Booting) (h block k v by at : ℕ) (w : Width) (off : ℤ) (known : Known) (csrs : Registers) → (v == 0) ≡ c → Works b h block known csrs → v < 2 ^ 64 → IsReached (length b.core.harts) known w by off at → sent b.core.ram b.board at (size_of w) (low_bytes (size_of w) v) ≡ [] → Pooled block k (cond c [] (put_values v)) b.core.rom →
     Did b h block (save_items c k w v by off) (cond c known (knows 6 v known)) csrs (stored b.board at (size_of w) (low_bytes (size_of w) v))
 save_does true b h block k v by at w off known csrs zeros works fits reached quiet pooled =
     store_does b h block 0 v by at w off known csrs works (omega arith) (let z : v ≡ 0 = eqb-true v 0 zeros in works.hart.nought ∙ sym z) reached quiet

@@ -1,6 +1,6 @@
 -- The device block puts the devices back, and goes on at the block of hart 0.
 use Rattle.std.proofs.Common.{◌≡◌, ℕ, ◌+◌, ◌*◌, ◌%◌, ◌^◌, ◌<◌, ◌≤◌, Bool, true, false, cond, List, [], ◌∷◌, ◌++◌, length, refl, sym, ap, ◌∙◌, arith, subst, ◌==◌, is_some}
-use Rattle.std.specs.Prelude.{All, ℤ, pos, None, slice_set}
+use Rattle.std.specs.Prelude.{ℤ, pos, slice_set}
 use Rattle.std.proofs.lemmas.Bool.{lt-ltb}
 use Rattle.std.proofs.lemmas.List.{get_or-set_same, get_or-set_other, length-set}
 use Rattle.rv_decode.specs.declared.Insn.{Insn}
@@ -13,64 +13,72 @@ use Rattle.hart_step.specs.Memory.{most_rom, rom_base}
 use Rattle.hart_step.specs.Effects.{at_pc, even_part, pc_after, with_write}
 use Rattle.hart_step.specs.Step.{memory_of}
 use Rattle.hart_turns.specs.Boot.{Booting, Leads}
-use Rattle.rom_gen.specs.Items.{AllSpelled, Put, Store, Go, Spelling, StandAt, Width, all_do, all_insns, becomes, code, does, go, pair, size_of, store_insn, word_count}
-use Rattle.hart_step.specs.DebugReset.{debug_registers}
-use Rattle.rom_gen.specs.Wants.{high_part, is_short, low_part, put_insns}
-use Rattle.rom_gen.specs.Deeds.{Deed, Aim, Save, Again, Read, Known, Runs, all_deed_values, deed_items, deed_values, known_all, placed_deeds}
+use Rattle.rom_gen.specs.ItemEffects.{AllSpelled, all_do, becomes, does, moved}
+use Rattle.rom_gen.specs.Items.{Put, Store, Go, Spelling, StandAt, Width, all_insns, code, go, pair, size_of, store_insn, word_count, Stands}
+use Rattle.rom_gen.specs.Wants.{high_part, is_short, low_part, put_insns, Pooled}
+use Rattle.rom_gen.specs.Deeds.{Deed, Aim, Save, Again, Read, all_deed_values, deed_items, deed_values, placed_deeds}
+use Rattle.rom_gen.proofs.Runs.{Known, Runs, known_all}
 use Rattle.rom_gen.specs.DeviceBlock.{device_deeds}
 use Rattle.rom_gen.specs.Rom.{device_items, far_insns}
-use Rattle.rom_gen.proofs.Deeds.{Did, Pooled, Works, WorksHart, deeds_do, do_append, moved, moved_again, count_append}
+use Rattle.rom_gen.proofs.Deeds.{Did, Works, WorksHart, deeds_do, do_append, moved_again, count_append}
 use Rattle.rom_gen.proofs.DeviceRuns.{devices_run}
-use Rattle.rom_gen.proofs.HartBlock.{HasCome, insns_count}
-use Rattle.rom_gen.proofs.ItemSteps.{Stays, code_length, item_steps, items_join, put_is, stand_first, stand_second}
+use Rattle.rom_gen.specs.Executed.{HasCome, NoneReserves}
+use Rattle.rom_gen.proofs.HartBlock.{insns_count}
+use Rattle.rom_gen.proofs.ItemSteps.{AllFollowed, code_length, item_steps, items_lead, put_is, stand_first, stand_second}
 use Rattle.hart_turns.proofs.BootSteps.{leads_join}
 use Rattle.rom_gen.proofs.Placed.{spelled_append}
-use Rattle.rom_gen.proofs.SecondLayout.{high_fits, high_multiple, low_fits, pair_value}
-use Rattle.rom_gen.proofs.Steps.{Stands}
+use Rattle.rom_gen.proofs.WantLayout.{high_fits, high_multiple, low_fits, pair_value}
 
-stays_append : (a c : List Spelling) → Stays a → Stays c → Stays (a ++ c)
-stays_append [] c first second = second
-stays_append (s ∷ a) c first second = (first.0, stays_append a c first.1 second)
+followed_append : (a c : List Spelling) → AllFollowed a → AllFollowed c → AllFollowed (a ++ c)
+followed_append [] c first second = second
+followed_append (s ∷ a) c first second = (first.0, followed_append a c first.1 second)
 
-save_stays : (z : Bool) (k : ℕ) (w : Width) (v by : ℕ) (off : ℤ) → Stays (cond z (record { item = Store (size_of w) 0 by off; insns = store_insn w by 0 off ∷ [] } ∷ []) (record { item = Put 6 v; insns = put_insns k 6 v } ∷ record { item = Store (size_of w) 6 by off; insns = store_insn w by 6 off ∷ [] } ∷ []))
-save_stays true k w v by off = (λ r e. cc, tt)
-save_stays false k w v by off = (λ r e. cc, (λ r e. cc, tt))
+save_followed : (z : Bool) (k : ℕ) (w : Width) (v by : ℕ) (off : ℤ) → AllFollowed (cond z (record { item = Store (size_of w) 0 by off; insns = store_insn w by 0 off ∷ [] } ∷ []) (record { item = Put 6 v; insns = put_insns k 6 v } ∷ record { item = Store (size_of w) 6 by off; insns = store_insn w by 6 off ∷ [] } ∷ []))
+save_followed true k w v by off = (tt, tt)
+save_followed false k w v by off = (tt, (tt, tt))
 
-deed_stays : (k : ℕ) (d : Deed) → Stays (deed_items k d)
-deed_stays k (Aim r v) = (λ r e. cc, tt)
-deed_stays k (Save w v by off at) = save_stays (v == 0) k w v by off
-deed_stays k (Again w v by off at) = (λ r e. cc, tt)
-deed_stays k (Read w by off at) = (λ r e. cc, tt)
+deed_followed : (k : ℕ) (d : Deed) → AllFollowed (deed_items k d)
+deed_followed k (Aim r v) = (tt, tt)
+deed_followed k (Save w v by off at) = save_followed (v == 0) k w v by off
+deed_followed k (Again w v by off at) = (tt, tt)
+deed_followed k (Read w by off at) = (tt, tt)
 
-deeds_stay : (k : ℕ) (ds : List Deed) → Stays (placed_deeds k ds)
-deeds_stay k [] = tt
-deeds_stay k (d ∷ ds) = stays_append (deed_items k d) (placed_deeds (k + 8 * length (deed_values d)) ds) (deed_stays k d) (deeds_stay (k + 8 * length (deed_values d)) ds)
+deeds_followed : (k : ℕ) (ds : List Deed) → AllFollowed (placed_deeds k ds)
+deeds_followed k [] = tt
+deeds_followed k (d ∷ ds) = followed_append (deed_items k d) (placed_deeds (k + 8 * length (deed_values d)) ds) (deed_followed k d) (deeds_followed (k + 8 * length (deed_values d)) ds)
 
 far_short : (v : ℕ) → v < 2 ^ 31 → is_short v ≡ true
 unfolding is_short
 far_short v small = rw (lt-ltb v 2147483648 small) refl
 
--- a machine at reset whose hart h has come to the device block gets these devices, and hart h comes to the next block
-pub device_block : (b : Booting) (h block k next : ℕ) (t : BoardState) (owner : Hart) → IsFit t → length b.core.harts ≡ hart_count t.clint → b.board ≡ reset_board (hart_count t.clint) → All (λ (x : Hart). x.reservation ≡ None) b.core.harts → HasCome b h block owner → next % 8 ≡ 0 → next ≤ most_rom → Pooled block k (all_deed_values (device_deeds t)) b.core.rom →
-    StandAt (code (all_insns (device_items k t next)) ++ code (Insn.Jalr 0 1 (pos 0) ∷ [])) block b.core.rom →
-    (hart : Hart) × (Leads h (word_count (device_items k t next) + 1) b (moved h (word_count (device_items k t next) + 1) hart t b)) × HasCome (moved h (word_count (device_items k t next) + 1) hart t b) h next owner
-device_block b h block k next t owner fit count fresh free come even within pooled codes =
+-- the deeds of the block, done by a hart that has come to it
+pub devices_done : (b : Booting) (h block k : ℕ) (t : BoardState) (csrs : Registers) → IsFit t → length b.core.harts ≡ hart_count t.clint → b.board ≡ reset_board (hart_count t.clint) → NoneReserves b.core.harts → HasCome b h block csrs → Pooled block k (all_deed_values (device_deeds t)) b.core.rom →
+    Did b h block (placed_deeds k (device_deeds t)) (known_all b.board (device_deeds t) (λ r. register (hart_of b.core h) r)) csrs t
+devices_done b h block k t csrs fit count fresh free come pooled =
     let n : ℕ = hart_count t.clint in
+    let ds : List Deed = device_deeds t in
+    let known : Known = λ r. register (hart_of b.core h) r in
+    let works : Works b h block known csrs = record { inside = come.inside; hart = record { count = come.stands.count; nought = come.stands.nought; one = come.at; has = λ r low high. refl; csrs_are = come.csrs_are; none = come.reservation }; free = free } in
+    let runs : Runs n b.core.ram known b.board ds t = subst (λ x. Runs n b.core.ram known x ds t) (sym fresh) (devices_run t b.core.ram known fit) in
+    deeds_do ds n b h block k known csrs t count works runs pooled
+
+-- a machine at reset whose hart h has come to the device block gets these devices, and hart h comes to the next block
+pub device_block : (b : Booting) (h block k next : ℕ) (t : BoardState) (csrs : Registers) → IsFit t → length b.core.harts ≡ hart_count t.clint → b.board ≡ reset_board (hart_count t.clint) → NoneReserves b.core.harts → HasCome b h block csrs → next % 8 ≡ 0 → next ≤ most_rom → Pooled block k (all_deed_values (device_deeds t)) b.core.rom →
+    StandAt (code (all_insns (device_items k t (rom_base + next))) ++ code (Insn.Jalr 0 1 (pos 0) ∷ [])) block b.core.rom →
+    (hart : Hart) × (Leads h (word_count (device_items k t (rom_base + next)) + 1) b (moved h (word_count (device_items k t (rom_base + next)) + 1) hart t b)) × HasCome (moved h (word_count (device_items k t (rom_base + next)) + 1) hart t b) h next csrs
+device_block b h block k next t csrs fit count fresh free come even within pooled codes =
     let ds : List Deed = device_deeds t in
     let v : ℕ = rom_base + next in
     let hart : Hart = hart_of b.core h in
     let known : Known = λ r. register hart r in
-    let csrs : Registers = debug_registers owner.csrs.hart in
-    let works : Works b h block known csrs = record { inside = come.inside; hart = record { count = come.stands.count; nought = come.stands.nought; one = come.at; has = λ r low high. refl; csrs_are = come.csrs; none = come.reservation }; free = free } in
-    let runs : Runs n b.core.ram known b.board ds t = subst (λ x. Runs n b.core.ram known x ds t) (sym fresh) (devices_run t b.core.ram known fit) in
-    let did : Did b h block (placed_deeds k ds) (known_all b.board ds known) csrs t = deeds_do ds n b h block k known csrs t count works runs pooled in
+    let did : Did b h block (placed_deeds k ds) (known_all b.board ds known) csrs t = devices_done b h block k t csrs fit count fresh free come pooled in
     let n1 : ℕ = word_count (placed_deeds k ds) in
     let hart1 : Hart = did.hart in
     let b1 : Booting = moved h n1 hart1 t b in
     let on : WorksHart hart1 block (known_all b.board ds known) csrs = subst (λ x. WorksHart x block (known_all b.board ds known) csrs) (get_or-set_same b.core.harts h hart1 (reset_hart 0 0) come.inside) did.works.hart in
     let here1 : hart_of b1.core h ≡ hart1 = get_or-set_same b.core.harts h hart1 (reset_hart 0 0) come.inside in
     let last : List Spelling = record { item = Put 1 v; insns = far_insns v } ∷ [] in
-    let items : List Spelling = device_items k t next in
+    let items : List Spelling = device_items k t v in
     let hart2 : Hart = with_write hart1 1 v (pc_after hart1 8) in
     let b2 : Booting = moved h (n1 + 2) hart2 t b in
     let spelled : AllSpelled h block items b = spelled_append h block (placed_deeds k ds) last b did.spelled (pair 1 v (high_part v) (low_part v) (omega arith) (omega arith) (high_fits v) (high_multiple v) (low_fits v) (pair_value v (omega arith) (far_short v (omega arith))), tt) in
@@ -79,7 +87,7 @@ device_block b h block k next t owner fit count fresh free come even within pool
     do_append h (placed_deeds k ds) last b ∙ ap (all_do h last) did.is
     ∙ ap (λ (x : Hart). becomes h 2 (with_write x 1 v (pc_after x 8)) b1) here1
     ∙ moved_again h n1 2 hart1 hart2 t t b in
-    let run = items_join b h block block items come.inside come.stands spelled (stays_append (placed_deeds k ds) last (deeds_stay k ds) (λ r e. cc, tt)) (stand_first (code (all_insns items)) (code (Insn.Jalr 0 1 (pos 0) ∷ [])) block b.core.rom codes) in
+    let run = items_lead b h block block items come.inside come.stands spelled (followed_append (placed_deeds k ds) last (deeds_followed k ds) (tt, tt)) (stand_first (code (all_insns items)) (code (Insn.Jalr 0 1 (pos 0) ∷ [])) block b.core.rom codes) in
     let leads : Leads h (word_count items) b b2 = subst (λ x. Leads h (word_count items) b x) same run.0 in
     let place : ℕ = block + 4 * word_count items in
     let stands2 : Stands (memory_of b2.core) (hart_of b2.core h) place = subst (λ (x : Booting). Stands (memory_of x.core) (hart_of x.core h) place) same run.1 in
@@ -101,14 +109,14 @@ device_block b h block k next t owner fit count fresh free come even within pool
     let here3 : hart_of b3.core h ≡ hart3 = get_or-set_same b.core.harts h hart3 (reset_hart 0 0) come.inside in
     let is3 : hart3 ≡ record hart1 { x = slice_set hart1.x 1 v; pc = v } = ap (λ (x : Hart). at_pc x v) is2 in
     let final : record hart1 { x = slice_set hart1.x 1 v; pc = v } ≡ hart_of b3.core h = sym is3 ∙ sym here3 in
-    let debugs : is_in_debug hart1 ≡ true = ap (λ (r : Registers). is_some r.debug) on.csrs_are in
+    let debugs : is_in_debug hart1 ≡ true = ap (λ (r : Registers). is_some r.debug) (on.csrs_are ∙ sym come.csrs_are) ∙ come.stands.debugs in
     let stands3 : Stands (memory_of b3.core) (record hart1 { x = slice_set hart1.x 1 v; pc = v }) next = record { debugs = debugs; at = refl; nought = get_or-set_other hart1.x 1 0 v 0 (omega arith) ∙ on.nought; count = length-set hart1.x 1 v ∙ on.count; small = come.stands.small } in (
       hart3,
       subst (λ x. Leads h (word_count items + 1) b x) same3 (leads_join h (word_count items) 1 b b2 (does h 1 (Go 1) b2) leads goes),
       record {
         inside = (let j = come.inside in omega (arith, length-set b.core.harts h hart3));
         stands = subst (λ x. Stands (memory_of b3.core) x next) final stands3;
-        csrs = ap (λ (x : Hart). x.csrs) (sym final) ∙ on.csrs_are;
+        csrs_are = ap (λ (x : Hart). x.csrs) (sym final) ∙ on.csrs_are;
         reservation = ap (λ (x : Hart). x.reservation) (sym final) ∙ on.none;
         at = ap (λ (x : Hart). register x 1) (sym final) ∙ get_or-set_same hart1.x 1 v 0 (let j = on.count in omega arith);
         aligned = even;

@@ -17,8 +17,10 @@ use Rattle.board_bus.specs.Board.{BoardState, IsFit, after_load, reset_board, st
 use Rattle.board_bus.specs.Listed.{is_listed}
 use Rattle.hart_step.specs.Effects.{offset_by}
 use Rattle.hart_turns.specs.Gives.{board_device}
-use Rattle.rom_gen.specs.Items.{Width, Byte, Word, Double, extended, size_of}
-use Rattle.rom_gen.specs.Deeds.{Deed, Aim, Save, Again, Read, IsReached, IsSound, Known, Runs, board_after_deed, known_after, knows}
+use Rattle.rom_gen.specs.Items.{Width, Byte, Word, Double, size_of}
+use Rattle.rom_gen.specs.ItemEffects.{extended}
+use Rattle.rom_gen.specs.Deeds.{Deed, Aim, Save, Again, Read}
+use Rattle.rom_gen.proofs.Runs.{IsReached, IsSound, Known, Runs, board_after_deed, known_after, knows}
 use Rattle.rom_gen.specs.DeviceBlock.{compare_deeds, context_deeds, device_deeds, marks_deeds, queue_deeds, soft_deeds, timer_deeds}
 use Rattle.rom_gen.proofs.Claims.{four}
 use Rattle.rom_gen.proofs.Console.{looped, unsent}

@@ -20,7 +20,8 @@ use Rattle.hart_step.specs.Effects.{at_pc, effect, goes_on, pc_after, resumed, s
 use Rattle.hart_step.specs.Step.{hart_step, shows}
 use Rattle.rom_gen.proofs.Fetch.{room}
 use Rattle.rom_gen.proofs.Joins.{Does}
-use Rattle.rom_gen.proofs.Steps.{Stands, at_word, does_effect}
+use Rattle.rom_gen.specs.Items.{Stands}
+use Rattle.rom_gen.proofs.Steps.{at_word, does_effect}
 
 -- debug mode loads and stores in machine mode, MPRV or not
 pub data_untranslated : (kind : Kind) (size : ℕ) (hart : Hart) (ram : List ℕ) (va : ℕ) → is_in_debug hart ≡ true → va % size ≡ 0 → data_address kind size hart ram va ≡ Ok va

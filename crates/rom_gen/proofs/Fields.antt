@@ -7,7 +7,7 @@ use Rattle.rv_decode.specs.Encode.{encoded, word_long, word_r}
 use Rattle.rom_gen.specs.Items.{Width, Byte, Word, Double, load_insn, store_insn}
 use Rattle.rom_gen.specs.Writing.{load_value, store_value}
 use Rattle.rom_gen.specs.Wants.{high_part, low_part}
-use Rattle.rom_gen.proofs.SecondLayout.{low_is, high_is}
+use Rattle.rom_gen.proofs.WantLayout.{low_is, high_is}
 
 pub low_field : (v : ℕ) → modulo 12 (low_part v) ≡ v % 4096
 low_field v = ⊎_elim (λ c. ap (modulo 12) c.1 ∙ omega (arith, c.0)) (λ c. ap (modulo 12) c.1 ∙ omega (arith, c.0)) (low_is (v % 4096) (omega arith))

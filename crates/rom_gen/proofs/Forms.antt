@@ -19,12 +19,13 @@ use Rattle.hart_step.specs.Memory.{MemoryState, from_device, from_memory, loaded
 use Rattle.hart_step.specs.Effects.{Effect, at_pc, effect, even_part, goes_on, offset_by, pc_after, shows_nothing, shows_store, shows_write, stores_at, with_write, writes}
 use Rattle.hart_step.specs.Shown.{Done}
 use Rattle.hart_step.specs.Step.{hart_step, shows}
-use Rattle.rom_gen.specs.Items.{StandAt, Width, Byte, Word, Double, extended, load_insn, size_of, store_insn}
+use Rattle.rom_gen.specs.Items.{StandAt, Width, Byte, Word, Double, load_insn, size_of, store_insn, Stands}
+use Rattle.rom_gen.specs.ItemEffects.{extended}
 use Rattle.rom_gen.proofs.Fetch.{room}
 use Rattle.rom_gen.proofs.Joins.{Does}
-use Rattle.rom_gen.proofs.Steps.{Stands, at_word, does_effect}
+use Rattle.rom_gen.proofs.Steps.{at_word, does_effect}
 use Rattle.rom_gen.proofs.Devices.{loads_device, loads_pool, stores_device}
-use Rattle.rom_gen.proofs.Words.{IsWord, word_r_fits, word_long_fits, modulo_12}
+use Rattle.rom_gen.proofs.WordForms.{IsWord, word_r_fits, word_long_fits, modulo_12}
 
 -- ---- values
 

@@ -1,48 +1,41 @@
 -- A hart's block restores it, in any layout.
-use Rattle.std.proofs.Common.{◌≡◌, ◌≢◌, ℕ, ◌+◌, ◌*◌, ◌%◌, ◌<◌, ◌≤◌, true, false, List, [], ◌∷◌, ◌++◌, length, refl, sym, ap, ◌∙◌, arith, subst, length-append, is_some, add_assoc, Bool, cond, not, ◌&&◌}
+use Rattle.std.proofs.Common.{◌≡◌, ℕ, ◌+◌, ◌*◌, ◌%◌, ◌<◌, ◌≤◌, List, [], ◌∷◌, ◌++◌, length, refl, sym, ap, ◌∙◌, arith, subst, length-append, add_assoc}
 use Rattle.std.specs.Prelude.{Some, None, slice_index, slice_set}
-use Rattle.std.proofs.lemmas.List.{append-nil, get_or-set_same, length-set, set-set}
+use Rattle.std.proofs.lemmas.List.{get_or-set_same, length-set, set-set}
 use Rattle.rv_alu.specs.Modes.{level}
 use Rattle.rv_decode.specs.declared.Insn.{Insn}
 use Rattle.csr_file.specs.Bits.{dcsr_fixed}
 use Rattle.csr_file.specs.Kept.{IsFit, reset_debug_registers}
 use Rattle.csr_file.specs.Legal.{legal}
 use Rattle.csr_file.specs.Numbers.{csr_dpc}
-use Rattle.trap_rules.specs.Return.{debug_returned, resumed_mode, resumed_pc}
-use Rattle.std.specs.List.{list_any}
 use Rattle.board_bus.specs.Board.{BoardState}
 use Rattle.hart_step.specs.declared.hart.Hart.{Hart}
-use Rattle.hart_step.specs.Answers.{Untouched}
-use Rattle.hart_step.specs.Harts.{hart_of, is_in_debug, register, reset_hart}
-use Rattle.hart_step.specs.Memory.{rom_base}
-use Rattle.hart_step.specs.Effects.{resumed}
-use Rattle.hart_step.specs.Step.{hart_step, memory_of, rom_after, unreserved_hart}
-use Rattle.hart_turns.specs.Gives.{board_gives}
+use Rattle.hart_step.specs.Harts.{hart_of, register, reset_hart}
+use Rattle.hart_step.specs.Step.{memory_of, unreserved_hart}
 use Rattle.hart_turns.specs.Boot.{Booting, Frees, Leads}
-use Rattle.rom_gen.specs.Items.{AllSpelled, Go, Item, Put, Csr, CsrImm, Store, Load, Spelling, StandAt, all_do, all_insns, becomes, code, word_count}
+use Rattle.rom_gen.specs.ItemEffects.{AllSpelled, all_do, becomes, rom_while, IsFollowed, left_debug, freed}
+use Rattle.rom_gen.specs.Items.{Go, Item, Leave, leave, Put, Csr, CsrImm, Store, Load, Spelling, StandAt, all_insns, code, word_count, Stands}
 use Rattle.hart_step.specs.DebugReset.{debug_registers}
 use Rattle.rom_gen.specs.HartWants.{controls, first_wants, registers}
-use Rattle.rom_gen.specs.Wants.{Want, Reg, AllGood, AllInner, AllKeep, IsGood, IsInner, IsLayout, Leaves, all_csrs, all_values, hart_all, placed, pool}
-use Rattle.rom_gen.proofs.AllHarts.{rom_while}
+use Rattle.rom_gen.specs.Wants.{Pooled, Want, Reg, AllGood, AllInner, AllKeep, IsGood, IsInner, IsLayout, Leaves, all_csrs, all_values, hart_all, placed, pool}
 use Rattle.rom_gen.proofs.Blocks.{inner_block}
-use Rattle.rom_gen.proofs.Devices.{leave_step}
 use Rattle.rom_gen.proofs.HartWants.{AllControl, SameBut2, controls_restore, csrs_append, numbered_csrs, controls_x, numbered_x, put_x, x_restored}
-use Rattle.rom_gen.proofs.ItemSteps.{Stays, code_length, items_join, stand_first, stand_second, unpicked}
+use Rattle.rom_gen.proofs.ItemSteps.{AllFollowed, code_length, item_steps, items_lead, stand_first, stand_second}
 use Rattle.hart_turns.proofs.BootSteps.{frees_join}
-use Rattle.rom_gen.proofs.Joins.{Does, acted, frees_step}
 use Rattle.rom_gen.proofs.Placed.{all_inner, hart_append, inner_append, placed_append, placed_base, placed_csrs, placed_spelled, pool_append, pool_length, spelled_append}
-use Rattle.rom_gen.proofs.Steps.{Stands}
 use Rattle.rom_gen.proofs.Whole.{left_is}
+use Rattle.rom_gen.specs.Executed.{HasCome}
 
-inner_item : (item : Item) → IsInner item → (r : ℕ) → item ≢ Go r
-inner_item (Put i v) inner r e = cc
-inner_item (Csr num i) inner r e = cc
-inner_item (CsrImm num u) inner r e = cc
-inner_item (Store size i at off) inner r e = inner
-inner_item (Load size i at off) inner r e = inner
-inner_item (Go i) inner r e = inner
+inner_item : (item : Item) → IsInner item → IsFollowed item
+inner_item (Put i v) inner = tt
+inner_item (Csr num i) inner = tt
+inner_item (CsrImm num u) inner = tt
+inner_item (Store size i at off) inner = tt
+inner_item (Load size i at off) inner = tt
+inner_item (Go i) inner = inner
+inner_item Leave inner = inner
 
-inner_stays : (items : List Spelling) → AllInner items → Stays items
+inner_stays : (items : List Spelling) → AllInner items → AllFollowed items
 inner_stays [] inner = tt
 inner_stays (s ∷ items) inner = (inner_item s.item inner.0, inner_stays items inner.1)
 
@@ -60,37 +53,32 @@ pub record IsTarget (t : Hart) : Type 0 where
   pub keeps : AllKeep (first_wants t)
   pub last : IsGood (Reg 1 (slice_index t.x 1))
 
--- a hart that has come to its block, whatever it has in its registers but x0 and x1
-pub record HasCome (b : Booting) (h block : ℕ) (t : Hart) : Type 0 where
-  pub inside : h < length b.core.harts
-  pub stands : Stands (memory_of b.core) (hart_of b.core h) block
-  pub csrs : (hart_of b.core h).csrs ≡ debug_registers t.csrs.hart
-  pub reservation : (hart_of b.core h).reservation ≡ None
-  pub at : register (hart_of b.core h) 1 ≡ rom_base + block
-  pub aligned : block % 8 ≡ 0
-
 pub insns_count : (items : List Spelling) → length (all_insns items) ≡ word_count items
 insns_count [] = refl
 insns_count (s ∷ items) = length-append s.insns (all_insns items) ∙ ap (λ k. length s.insns + k) (insns_count items)
 
-quiet_rom : (b : Booting) (h : ℕ) (hart : Hart) (rom : List ℕ) → acted h None hart rom Untouched b ≡ becomes h 1 hart (record b { core = record b.core { rom = rom } })
-quiet_rom b h hart rom = ap (λ c. record { core = record b.core { harts = slice_set b.core.harts h hart; rom = rom }; board = b.board; console = c; steps = b.steps + 1 }) (append-nil b.console)
+pub freed_moved : (h n m : ℕ) (first hart : Hart) (one two : BoardState) (b : Booting) → freed h m hart two (record { core = record b.core { harts = slice_set b.core.harts h first }; board = one; console = b.console; steps = b.steps + n }) ≡ freed h (n + m) hart two b
+freed_moved h n m first hart one two b =
+    ap (λ hs. record { core = record { harts = hs; ram = b.core.ram; rom = rom_while hs b.core.rom }; board = two; console = b.console; steps = b.steps + n + m }) (set-set b.core.harts h first hart)
+    ∙ ap (λ k. record { core = record { harts = slice_set b.core.harts h hart; ram = b.core.ram; rom = rom_while (slice_set b.core.harts h hart) b.core.rom }; board = two; console = b.console; steps = k }) (add_assoc b.steps n m)
 
 -- all items of the block but dret
 abbrev pub block_items : (ℕ → Want → List Spelling) → (Want → List ℕ) → ℕ → Hart → List Spelling
 block_items spell values off t = placed spell values off (first_wants t) ++ spell (off + 8 * length (all_values values (first_wants t))) (Reg 1 (slice_index t.x 1))
 
-pub hart_block : {spell : ℕ → Want → List Spelling} {values : Want → List ℕ} → IsLayout spell values → (b : Booting) (h block off : ℕ) (t : Hart) → IsTarget t → HasCome b h block t → off % 8 ≡ 0 →
-    off + 8 * length (all_values values (first_wants t)) + 8 * length (values (Reg 1 (slice_index t.x 1))) ≤ 2048 →
+pub hart_block : {spell : ℕ → Want → List Spelling} {values : Want → List ℕ} → IsLayout spell values → (b : Booting) (h block off : ℕ) (t : Hart) → IsTarget t → HasCome b h block (debug_registers t.csrs.hart) →
+    Pooled block off (all_values values (first_wants t) ++ values (Reg 1 (slice_index t.x 1))) b.core.rom →
     StandAt (code (all_insns (block_items spell values off t)) ++ code (Insn.Dret ∷ [])) block b.core.rom →
-    StandAt (pool (all_values values (first_wants t)) ++ pool (values (Reg 1 (slice_index t.x 1)))) (block + off) b.core.rom →
-    let b2 : Booting = becomes h (word_count (block_items spell values off t)) (hart_all (block_items spell values off t) (hart_of b.core h)) b in
-    Frees h (word_count (block_items spell values off t) + 1) b (becomes h 1 (unreserved_hart t) (record b2 { core = record b2.core { rom = rom_after (hart_of b2.core h) (unreserved_hart t) (slice_set b2.core.harts h (unreserved_hart t)) b2.core.rom } })) × (is_in_debug (hart_of b2.core h) ≡ true)
-hart_block {spell = spell} {values = values} layout b h block off t target come even room codes pools =
+    Frees h (word_count (block_items spell values off t) + 1) b (freed h (word_count (block_items spell values off t) + 1) (unreserved_hart t) b.board b)
+hart_block {spell = spell} {values = values} layout b h block off t target come pooled codes =
     let hart : Hart = hart_of b.core h in
     let ws : List Want = first_wants t in
     let l : Want = Reg 1 (slice_index t.x 1) in
     let us : List ℕ = all_values values ws in
+    let vs : List ℕ = values l in
+    let even : off % 8 ≡ 0 = pooled.even in
+    let room : off + 8 * length us + 8 * length vs ≤ 2048 = omega (arith, pooled.room, length-append us vs) in
+    let pools : StandAt (pool us ++ pool vs) (block + off) b.core.rom = subst (λ bs. StandAt bs (block + off) b.core.rom) (pool_append us vs) pooled.there in
     let off2 : ℕ = off + 8 * length us in
     let items1 : List Spelling = placed spell values off ws in
     let items2 : List Spelling = spell off2 l in
@@ -110,7 +98,7 @@ hart_block {spell = spell} {values = values} layout b h block off t target come 
     let hart2 : Hart = hart_all items hart in
     let b2 : Booting = becomes h words hart2 b in
     let same : all_do h items b ≡ b2 = inner_block h items b come.inside inner in
-    let run = items_join b h block block items come.inside come.stands spelled (inner_stays items inner) (stand_first (code (all_insns items)) (code (Insn.Dret ∷ [])) block b.core.rom codes) in
+    let run = items_lead b h block block items come.inside come.stands spelled (inner_stays items inner) (stand_first (code (all_insns items)) (code (Insn.Dret ∷ [])) block b.core.rom codes) in
     let leads : Leads h words b b2 = subst (λ x. Leads h words b x) same run.0 in
     let stands2 : Stands (memory_of b2.core) (hart_of b2.core h) (block + 4 * words) = subst (λ (x : Booting). Stands (memory_of x.core) (hart_of x.core h) (block + 4 * words)) same run.1 in
     let off3 : ℕ = off + 8 * length (all_values values (controls t)) in
@@ -120,7 +108,7 @@ hart_block {spell = spell} {values = values} layout b h block off t target come 
     let csrs : hart2.csrs ≡ record t.csrs { debug = Some (record reset_debug_registers { dcsr = dcsr_fixed + level t.mode; dpc = t.pc }) } =
     ap (λ (x : Hart). x.csrs) is2 ∙ leaves2.csrs ∙ placed_csrs layout off ws hart target.good come.stands.count
     ∙ csrs_append (controls t) (registers t) hart.csrs ∙ numbered_csrs 30 2 t.x (all_csrs (controls t) hart.csrs)
-    ∙ ap (all_csrs (controls t)) come.csrs ∙ controls_restore t target.csrs target.pc in
+    ∙ ap (all_csrs (controls t)) come.csrs_are ∙ controls_restore t target.csrs target.pc in
     let but2 : SameBut2 hart.x hart0.x = controls_x layout off (controls t) hart target.only_controls target.good_controls come.stands.count in
     let x1 : hart1.x ≡ put_x 30 2 t.x hart0.x =
     ap (λ its. (hart_all its hart).x) (placed_append spell values off (controls t) (registers t))
@@ -130,50 +118,9 @@ hart_block {spell = spell} {values = values} layout b h block off t target come 
     let none : hart2.reservation ≡ None = ap (λ (x : Hart). x.reservation) is2 ∙ leaves2.reservation ∙ kept.2 ∙ come.reservation in
     let here2 : hart_of b2.core h ≡ hart2 = get_or-set_same b.core.harts h hart2 (reset_hart 0 0) come.inside in
     let end : Hart = hart_of b2.core h in
-    let next : Hart = resumed (debug_returned end.csrs) (resumed_mode end.csrs.debug) (resumed_pc end.csrs.debug) end in
-    let is : next ≡ unreserved_hart t = left_is t end target.out (ap (λ (x : Hart). x.x) here2 ∙ xs) (ap (λ (x : Hart). x.reservation) here2 ∙ none) (ap (λ (x : Hart). x.csrs) here2 ∙ csrs) in
+    let next : Hart = unreserved_hart t in
+    let is : left_debug end ≡ next = left_is t end target.out (ap (λ (x : Hart). x.x) here2 ∙ xs) (ap (λ (x : Hart). x.reservation) here2 ∙ none) (ap (λ (x : Hart). x.csrs) here2 ∙ csrs) in
     let tail : StandAt (code (Insn.Dret ∷ [])) (block + 4 * words) b2.core.rom = subst (λ q. StandAt (code (Insn.Dret ∷ [])) q b.core.rom) (ap (λ k. block + k) (code_length (all_insns items) ∙ ap (λ k. 4 * k) (insns_count items))) (stand_second (code (all_insns items)) (code (Insn.Dret ∷ [])) block b.core.rom codes) in
     let inside2 : h < length b2.core.harts = omega (arith, come.inside, length-set b.core.harts h hart2) in
-    let out : is_in_debug (unreserved_hart t) ≡ false = ap is_some target.out in
-    let step = leave_step (board_gives b2.board h end) (length b2.core.harts) h end (memory_of b2.core) (block + 4 * words) tail.0 stands2 (unpicked end.csrs end.mode _ stands2.debugs) tail.1 in
-    let frees = frees_step b2 h (hart_step (board_gives b2.board h end) (length b2.core.harts) h end (memory_of b2.core)) (unreserved_hart t) Untouched inside2 refl (subst (λ x. Does (memory_of b2.core) (hart_step (board_gives b2.board h end) (length b2.core.harts) h end (memory_of b2.core)) None x Untouched) is step) out in
-    let rom : List ℕ = rom_after end (unreserved_hart t) (slice_set b2.core.harts h (unreserved_hart t)) b2.core.rom in
-    (subst (λ x. Frees h (words + 1) b x) (quiet_rom b2 h (unreserved_hart t) rom) (frees_join h words 1 b b2 _ leads frees), stands2.debugs)
-
--- the machine after hart h has left debug mode as another, n steps later
-abbrev pub freed : ℕ → ℕ → Hart → BoardState → Booting → Booting
-freed h n hart board b = record { core = record { harts = slice_set b.core.harts h hart; ram = b.core.ram; rom = rom_while (slice_set b.core.harts h hart) b.core.rom }; board = board; console = b.console; steps = b.steps + n }
-
--- the emptying of the ROM, for a hart that was in debug mode and is not
-emptied : (was is any : Bool) (rom : List ℕ) → was ≡ true → is ≡ false → cond ((was && not is) && not any) [] rom ≡ cond any rom []
-emptied true false true rom e1 e2 = refl
-emptied true false false rom e1 e2 = refl
-emptied true true any rom e1 e2 = absurd (cc)
-emptied false is any rom e1 e2 = absurd (cc)
-
-pub hart_frees : {spell : ℕ → Want → List Spelling} {values : Want → List ℕ} → IsLayout spell values → (b : Booting) (h block off : ℕ) (t : Hart) → IsTarget t → HasCome b h block t → off % 8 ≡ 0 →
-    off + 8 * length (all_values values (first_wants t) ++ values (Reg 1 (slice_index t.x 1))) ≤ 2048 →
-    StandAt (code (all_insns (block_items spell values off t)) ++ code (Insn.Dret ∷ [])) block b.core.rom →
-    StandAt (pool (all_values values (first_wants t) ++ values (Reg 1 (slice_index t.x 1)))) (block + off) b.core.rom →
-    Frees h (word_count (block_items spell values off t) + 1) b (freed h (word_count (block_items spell values off t) + 1) (unreserved_hart t) b.board b)
-hart_frees {spell = spell} {values = values} layout b h block off t target come even room codes pools =
-    let us : List ℕ = all_values values (first_wants t) in
-    let vs : List ℕ = values (Reg 1 (slice_index t.x 1)) in
-    let items : List Spelling = block_items spell values off t in
-    let n : ℕ = word_count items in
-    let hart2 : Hart = hart_all items (hart_of b.core h) in
-    let next : Hart = unreserved_hart t in
-    let ended = hart_block layout b h block off t target come even (omega (arith, room, length-append us vs)) codes (subst (λ bs. StandAt bs (block + off) b.core.rom) (pool_append us vs) pools) in
-    let hs2 : List Hart = slice_set b.core.harts h hart2 in
-    let hs3 : List Hart = slice_set hs2 h next in
-    let rom : rom_after (hart_of (record b.core { harts = hs2 }) h) next hs3 b.core.rom ≡ rom_while hs3 b.core.rom = emptied (is_in_debug (hart_of (record b.core { harts = hs2 }) h)) (is_in_debug next) (list_any is_in_debug hs3) b.core.rom ended.1 (ap is_some target.out) in
-    subst (λ x. Frees h (n + 1) b x)
-    (ap (λ r. record { core = record { harts = hs3; ram = b.core.ram; rom = r }; board = b.board; console = b.console; steps = b.steps + n + 1 }) rom
-    ∙ ap (λ hs. record { core = record { harts = hs; ram = b.core.ram; rom = rom_while hs b.core.rom }; board = b.board; console = b.console; steps = b.steps + n + 1 }) (set-set b.core.harts h hart2 next)
-    ∙ ap (λ k. record { core = record { harts = slice_set b.core.harts h next; ram = b.core.ram; rom = rom_while (slice_set b.core.harts h next) b.core.rom }; board = b.board; console = b.console; steps = k }) (add_assoc b.steps n 1))
-    ended.0
-
-pub freed_moved : (h n m : ℕ) (first hart : Hart) (one two : BoardState) (b : Booting) → freed h m hart two (record { core = record b.core { harts = slice_set b.core.harts h first }; board = one; console = b.console; steps = b.steps + n }) ≡ freed h (n + m) hart two b
-freed_moved h n m first hart one two b =
-    ap (λ hs. record { core = record { harts = hs; ram = b.core.ram; rom = rom_while hs b.core.rom }; board = two; console = b.console; steps = b.steps + n + m }) (set-set b.core.harts h first hart)
-    ∙ ap (λ k. record { core = record { harts = slice_set b.core.harts h hart; ram = b.core.ram; rom = rom_while (slice_set b.core.harts h hart) b.core.rom }; board = two; console = b.console; steps = k }) (add_assoc b.steps n m)
+    let frees : Frees h 1 b2 (freed h 1 next b.board b2) = subst (λ x. Frees h 1 b2 (freed h 1 x b.board b2)) is (item_steps b2 h (block + 4 * words) block Leave (Insn.Dret ∷ []) inside2 stands2 leave tail) in
+    subst (λ x. Frees h (words + 1) b x) (freed_moved h words 1 hart2 next b.board b.board b) (frees_join h words 1 b b2 _ leads frees)

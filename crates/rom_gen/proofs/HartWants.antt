@@ -15,10 +15,9 @@ use Rattle.hart_step.specs.declared.hart.Hart.{Hart}
 use Rattle.rom_gen.specs.Items.{Spelling}
 use Rattle.rom_gen.specs.HartWants.{controls, numbered, slot_wants}
 use Rattle.hart_step.specs.DebugReset.{debug_registers}
-use Rattle.rom_gen.specs.Restoring.{put_back}
+use Rattle.rom_gen.proofs.Registers.{put_back, debug_back, kept_back}
 use Rattle.rom_gen.specs.Wants.{Want, Reg, Control, AllGood, IsLayout, Leaves, all_csrs, hart_all, placed}
 use Rattle.rom_gen.proofs.Placed.{count_kept, hart_append}
-use Rattle.rom_gen.proofs.Registers.{debug_back, kept_back}
 
 pub csrs_append : (a c : List Want) (r : Registers) → all_csrs (a ++ c) r ≡ all_csrs c (all_csrs a r)
 csrs_append [] c r = refl

@@ -1,5 +1,6 @@
 -- The steps of a hart at the spelling of an item do what the item does.
-use Rattle.std.proofs.Common.{◌≡◌, ℕ, ◌+◌, ◌*◌, ◌%◌, ◌^◌, ◌<◌, ◌≤◌, ◌≢◌, true, cond, List, [], ◌∷◌, ◌++◌, length, drop, refl, sym, ap, ◌∙◌, arith, subst, append_assoc}
+use Rattle.std.proofs.Common.{◌≡◌, ℕ, ◌+◌, ◌*◌, ◌%◌, ◌^◌, ◌<◌, ◌≤◌, Bool, true, false, not, ◌&&◌, cond, List, [], ◌∷◌, ◌++◌, length, drop, refl, sym, ap, ◌∙◌, arith, subst, append_assoc}
+use Rattle.std.specs.List.{list_any}
 use Rattle.std.specs.Prelude.{is_some, Option, Some, None, slice_set, map}
 use Rattle.csr_file.specs.Write.{written}
 use Rattle.std.proofs.lemmas.Bool.{ne_eqb}
@@ -22,13 +23,16 @@ use Rattle.hart_step.specs.Memory.{MemoryState}
 use Rattle.hart_step.specs.Effects.{at_pc, offset_by, pc_after, with_write}
 use Rattle.hart_step.specs.Step.{after_store, hart_step, memory_of, without_reservation}
 use Rattle.hart_turns.specs.Gives.{board_gives, board_after, board_device}
-use Rattle.hart_turns.specs.Boot.{Booting, Leads, boot_hart}
-use Rattle.rom_gen.specs.Items.{Item, Put, Csr, CsrImm, Store, Go, Spelled, small, upper, pair, pooled, csr, csr_imm, store, load, go, Load, extended, size_of, Spelling, StandAt, AllSpelled, all_do, all_insns, becomes, code, does, hart_after, word_count}
+use Rattle.trap_rules.specs.Return.{debug_returned}
+use Rattle.hart_turns.specs.Boot.{Booting, Frees, Leads, boot_hart}
+use Rattle.rom_gen.specs.Items.{Item, Put, Csr, CsrImm, Store, Go, Spelled, small, upper, pair, pooled, csr, csr_imm, store, load, go, leave, Leave, Load, size_of, Spelling, StandAt, all_insns, code, word_count, Stands}
+use Rattle.rom_gen.specs.ItemEffects.{extended, AllSpelled, all_do, becomes, does, hart_after, IsFollowed, Moves, freed, is_leave, left_debug, rom_while}
 use Rattle.rom_gen.proofs.Fetch.{room}
 use Rattle.rom_gen.proofs.InDebug.{written_debugs}
 use Rattle.hart_turns.proofs.BootSteps.{leads_join}
-use Rattle.rom_gen.proofs.Joins.{Does, acted, leads_step, length-after}
-use Rattle.rom_gen.proofs.Steps.{Stands, csr_imm_step, csr_step, small_step}
+use Rattle.rom_gen.proofs.Devices.{leave_step}
+use Rattle.rom_gen.proofs.Joins.{Does, acted, frees_step, leads_step, length-after}
+use Rattle.rom_gen.proofs.Steps.{csr_imm_step, csr_step, small_step}
 use Rattle.rom_gen.proofs.Forms.{go_step, load_step, low_step, pooled_step, store_step, upper_step}
 
 -- no interrupt is given to a hart in debug mode
@@ -99,9 +103,34 @@ becomes_twice b h first second =
     ap (λ hs. record b { core = record b.core { harts = hs }; steps = b.steps + 1 + 1 }) (set-set b.core.harts h first second)
     ∙ ap (λ n. record b { core = record b.core { harts = slice_set b.core.harts h second }; steps = n }) (omega arith)
 
+-- ---- out of debug mode
+
+-- the emptying of the ROM, for a hart that was in debug mode and is not
+emptied : (was is any : Bool) (rom : List ℕ) → was ≡ true → is ≡ false → cond ((was && not is) && not any) [] rom ≡ cond any rom []
+emptied true false true rom e1 e2 = refl
+emptied true false false rom e1 e2 = refl
+emptied true true any rom e1 e2 = absurd (cc)
+emptied false is any rom e1 e2 = absurd (cc)
+
+out_of_debug : (hart : Hart) → is_in_debug (left_debug hart) ≡ false
+unfolding debug_returned
+out_of_debug hart = refl
+
+leave_frees : (b : Booting) (h p : ℕ) → h < length b.core.harts → Stands (memory_of b.core) (hart_of b.core h) p → StandAt (code (Insn.Dret ∷ [])) p b.core.rom → Frees h 1 b (freed h 1 (left_debug (hart_of b.core h)) b.board b)
+leave_frees b h p inside stands there =
+    let hart : Hart = hart_of b.core h in
+    let next : Hart = left_debug hart in
+    let harts : List Hart = slice_set b.core.harts h next in
+    let out : is_in_debug next ≡ false = out_of_debug hart in
+    let step = leave_step (board_gives b.board h hart) (length b.core.harts) h hart (memory_of b.core) p there.0 stands (unpicked hart.csrs hart.mode _ stands.debugs) there.1 in
+    subst (λ x. Frees h 1 b x)
+    (ap (λ rom. record { core = record { harts = harts; ram = b.core.ram; rom = rom }; board = b.board; console = b.console ++ []; steps = b.steps + 1 }) (emptied (is_in_debug hart) (is_in_debug next) (list_any is_in_debug harts) b.core.rom stands.debugs out)
+    ∙ ap (λ c. record { core = record { harts = harts; ram = b.core.ram; rom = rom_while harts b.core.rom }; board = b.board; console = c; steps = b.steps + 1 }) (append-nil b.console))
+    (frees_step b h (hart_step (board_gives b.board h hart) (length b.core.harts) h hart (memory_of b.core)) next Untouched inside refl step out)
+
 -- ---- the law
 
-pub item_steps : (b : Booting) (h p block : ℕ) (item : Item) (insns : List Insn) → h < length b.core.harts → Stands (memory_of b.core) (hart_of b.core h) p → Spelled (length b.core.harts) (memory_of b.core) (hart_of b.core h) block item insns → StandAt (code insns) p b.core.rom → Leads h (length insns) b (does h (length insns) item b)
+pub item_steps : (b : Booting) (h p block : ℕ) (item : Item) (insns : List Insn) → h < length b.core.harts → Stands (memory_of b.core) (hart_of b.core h) p → Spelled (length b.core.harts) (memory_of b.core) (hart_of b.core h) block item insns → StandAt (code insns) p b.core.rom → Moves (is_leave item) h (length insns) b (does h (length insns) item b)
 item_steps b h p block _ _ inside stands (small r v imm some r_fits is_signed is) there =
     let hart : Hart = hart_of b.core h in
     leads_quiet b h hart (with_write hart r v (pc_after hart 4)) inside refl stands.debugs (debugs_put hart r v (pc_after hart 4) some stands.debugs)
@@ -158,6 +187,7 @@ item_steps b h p block _ _ inside stands (go r r_fits fits) there =
     let hart : Hart = hart_of b.core h in
     leads_quiet b h hart (hart_after 1 (Go r) hart) inside refl stands.debugs stands.debugs
     (λ given none. go_step given (length b.core.harts) h hart (memory_of b.core) p r there.0 stands none r_fits fits there.1)
+item_steps b h p block _ _ inside stands leave there = leave_frees b h p inside stands there
 
 -- ---- one item after another
 
@@ -173,7 +203,7 @@ stands_becomes : (b : Booting) (h n q : ℕ) (next : Hart) → h < length b.core
 stands_becomes b h n q next inside stands = subst (λ x. Stands (memory_of b.core) x q) (sym (get_or-set_same b.core.harts h next (reset_hart 0 0) inside)) stands
 
 -- the hart stands behind an item of a block
-pub stands_after : (b : Booting) (h p block : ℕ) (item : Item) (insns : List Insn) → h < length b.core.harts → Stands (memory_of b.core) (hart_of b.core h) p → Spelled (length b.core.harts) (memory_of b.core) (hart_of b.core h) block item insns → p + 4 * length insns ≤ length b.core.rom → ((r : ℕ) → item ≢ Go r) → Stands (memory_of (does h (length insns) item b).core) (hart_of (does h (length insns) item b).core h) (p + 4 * length insns)
+pub stands_after : (b : Booting) (h p block : ℕ) (item : Item) (insns : List Insn) → h < length b.core.harts → Stands (memory_of b.core) (hart_of b.core h) p → Spelled (length b.core.harts) (memory_of b.core) (hart_of b.core h) block item insns → p + 4 * length insns ≤ length b.core.rom → IsFollowed item → Stands (memory_of (does h (length insns) item b).core) (hart_of (does h (length insns) item b).core h) (p + 4 * length insns)
 stands_after b h p block _ _ inside stands (small r v imm some r_fits is_signed is) within stays = stands_becomes b h 1 (p + 4) _ inside (stands_put (memory_of b.core) (hart_of b.core h) p 4 r v stands some within)
 stands_after b h p block _ _ inside stands (upper r v imm some r_fits is_signed multiple is) within stays = stands_becomes b h 1 (p + 4) _ inside (stands_put (memory_of b.core) (hart_of b.core h) p 4 r v stands some within)
 stands_after b h p block _ _ inside stands (pair r v high low some r_fits high_fits multiple low_fits is) within stays = stands_becomes b h 2 (p + 8) _ inside (stands_put (memory_of b.core) (hart_of b.core h) p 8 r v stands some within)
@@ -188,7 +218,8 @@ stands_after b h p block _ _ inside stands (store w r at off r_fits at_fits is_s
     subst (λ x. Stands (memory_of b.core) x (p + 4)) (sym (get_or-set_same harts h (at_pc hart (pc_after hart 4)) (reset_hart 0 0) inside1)) (stands_on (memory_of b.core) hart p 4 hart.csrs stands stands.debugs within)
 stands_after b h p block _ _ inside stands (load w r at off some r_fits at_fits is_signed aligned below device) within stays =
     stands_becomes b h 1 (p + 4) _ inside (stands_put (memory_of b.core) (hart_of b.core h) p 4 r _ stands some within)
-stands_after b h p block _ _ inside stands (go r r_fits fits) within stays = absurd (stays r refl)
+stands_after b h p block _ _ inside stands (go r r_fits fits) within stays = absurd stays
+stands_after b h p block _ _ inside stands leave within stays = absurd stays
 
 -- bytes that stand one behind the other
 pub stand_first : (a c : List ℕ) (p : ℕ) (rom : List ℕ) → StandAt (a ++ c) p rom → StandAt a p rom
@@ -197,31 +228,33 @@ stand_first a c p rom (rest, e) = (c ++ rest, e ∙ append_assoc a c rest)
 pub stand_second : (a c : List ℕ) (p : ℕ) (rom : List ℕ) → StandAt (a ++ c) p rom → StandAt c (p + length a) rom
 stand_second a c p rom (rest, e) = (rest, sym (drop-drop (length a) p rom) ∙ ap (drop (length a)) (e ∙ append_assoc a c rest) ∙ drop_at a (c ++ rest) (length a) refl)
 
-rom_same : (b : Booting) (h n : ℕ) (item : Item) → (does h n item b).core.rom ≡ b.core.rom
-rom_same b h n (Put r v) = refl
-rom_same b h n (Csr num r) = refl
-rom_same b h n (CsrImm num u) = refl
-rom_same b h n (Store size r at off) = refl
-rom_same b h n (Load size r at off) = refl
-rom_same b h n (Go r) = refl
+pub rom_same : (b : Booting) (h n : ℕ) (item : Item) → IsFollowed item → (does h n item b).core.rom ≡ b.core.rom
+rom_same b h n (Put r v) follows = refl
+rom_same b h n (Csr num r) follows = refl
+rom_same b h n (CsrImm num u) follows = refl
+rom_same b h n (Store size r at off) follows = refl
+rom_same b h n (Load size r at off) follows = refl
+rom_same b h n (Go r) follows = absurd follows
+rom_same b h n Leave follows = absurd follows
 
-harts_same : (b : Booting) (h n : ℕ) (item : Item) → length (does h n item b).core.harts ≡ length b.core.harts
+pub harts_same : (b : Booting) (h n : ℕ) (item : Item) → length (does h n item b).core.harts ≡ length b.core.harts
 harts_same b h n (Put r v) = length-set b.core.harts h _
 harts_same b h n (Csr num r) = length-set b.core.harts h _
 harts_same b h n (CsrImm num u) = length-set b.core.harts h _
 harts_same b h n (Store size r at off) = length-set (map (without_reservation (offset_by (register (hart_of b.core h) at) off) size) b.core.harts) h _ ∙ length-map b.core.harts (without_reservation (offset_by (register (hart_of b.core h) at) off) size)
 harts_same b h n (Load size r at off) = length-set b.core.harts h _
 harts_same b h n (Go r) = length-set b.core.harts h _
+harts_same b h n Leave = length-set b.core.harts h _
 
--- no item but the last one goes
-abbrev pub Stays : List Spelling → Type 0
-Stays [] = Unit {0}
-Stays (s ∷ rest) = ((r : ℕ) → s.item ≢ Go r) × Stays rest
+-- behind each item of a list the next is executed
+abbrev pub AllFollowed : List Spelling → Type 0
+AllFollowed [] = Unit {0}
+AllFollowed (s ∷ rest) = IsFollowed s.item × AllFollowed rest
 
-none_lead : (h : ℕ) (b : Booting) → Leads h 0 b b
+pub none_lead : (h : ℕ) (b : Booting) → Leads h 0 b b
 none_lead h b left = let e : 0 + left ≡ left = omega arith in ap (λ n. boot_hart n h b) e
 
-some_words : {n : ℕ} {memory : MemoryState} {hart : Hart} {block : ℕ} {item : Item} {insns : List Insn} → Spelled n memory hart block item insns → 0 < length insns
+pub some_words : {n : ℕ} {memory : MemoryState} {hart : Hart} {block : ℕ} {item : Item} {insns : List Insn} → Spelled n memory hart block item insns → 0 < length insns
 some_words (small r v imm some r_fits is_signed is) = omega arith
 some_words (upper r v imm some r_fits is_signed multiple is) = omega arith
 some_words (pair r v high low some r_fits high_fits multiple low_fits is) = omega arith
@@ -231,20 +264,31 @@ some_words (csr_imm num u u_fits num_fits writable) = omega arith
 some_words (store w r at off r_fits at_fits is_signed aligned below device) = omega arith
 some_words (load w r at off some r_fits at_fits is_signed aligned below device) = omega arith
 some_words (go r r_fits fits) = omega arith
+some_words leave = omega arith
 
-pub items_join : (b : Booting) (h p block : ℕ) (items : List Spelling) → h < length b.core.harts → Stands (memory_of b.core) (hart_of b.core h) p → AllSpelled h block items b → Stays items → StandAt (code (all_insns items)) p b.core.rom → Leads h (word_count items) b (all_do h items b) × Stands (memory_of (all_do h items b).core) (hart_of (all_do h items b).core h) (p + 4 * word_count items)
-items_join b h p block [] inside stands spelled stays there = (none_lead h b, subst (λ q. Stands (memory_of b.core) (hart_of b.core h) q) (let e : p ≡ p + 0 = omega arith in e) stands)
-items_join b h p block (s ∷ rest) inside stands spelled stays there =
+-- the steps of an item behind which the next is executed lead on
+pub followed_leads : (item : Item) → IsFollowed item → (h n : ℕ) (b b' : Booting) → Moves (is_leave item) h n b b' → Leads h n b b'
+followed_leads (Put r v) follows h n b b' moves = moves
+followed_leads (Csr num r) follows h n b b' moves = moves
+followed_leads (CsrImm num u) follows h n b b' moves = moves
+followed_leads (Store size r at off) follows h n b b' moves = moves
+followed_leads (Load size r at off) follows h n b b' moves = moves
+followed_leads (Go r) follows h n b b' moves = absurd follows
+followed_leads Leave follows h n b b' moves = absurd follows
+
+pub items_lead : (b : Booting) (h p block : ℕ) (items : List Spelling) → h < length b.core.harts → Stands (memory_of b.core) (hart_of b.core h) p → AllSpelled h block items b → AllFollowed items → StandAt (code (all_insns items)) p b.core.rom → Leads h (word_count items) b (all_do h items b) × Stands (memory_of (all_do h items b).core) (hart_of (all_do h items b).core h) (p + 4 * word_count items)
+items_lead b h p block [] inside stands spelled stays there = (none_lead h b, subst (λ q. Stands (memory_of b.core) (hart_of b.core h) q) (let e : p ≡ p + 0 = omega arith in e) stands)
+items_lead b h p block (s ∷ rest) inside stands spelled stays there =
     let split : StandAt (code s.insns ++ code (all_insns rest)) p b.core.rom = subst (λ bs. StandAt bs p b.core.rom) (code_append s.insns (all_insns rest)) there in
     let first : StandAt (code s.insns) p b.core.rom = stand_first (code s.insns) (code (all_insns rest)) p b.core.rom split in
     let b1 : Booting = does h (length s.insns) s.item b in
     let words : 0 < length s.insns = some_words spelled.0 in
     let within : p + 4 * length s.insns ≤ length b.core.rom = omega (arith, code_length s.insns, room p (code s.insns) first.0 b.core.rom first.1 (let k = code_length s.insns in omega arith)) in
     let second : StandAt (code (all_insns rest)) (p + 4 * length s.insns) b1.core.rom =
-    subst (λ q. StandAt (code (all_insns rest)) q b1.core.rom) (ap (λ k. p + k) (code_length s.insns)) (subst (λ rom. StandAt (code (all_insns rest)) (p + length (code s.insns)) rom) (sym (rom_same b h (length s.insns) s.item)) (stand_second (code s.insns) (code (all_insns rest)) p b.core.rom split)) in
+    subst (λ q. StandAt (code (all_insns rest)) q b1.core.rom) (ap (λ k. p + k) (code_length s.insns)) (subst (λ rom. StandAt (code (all_insns rest)) (p + length (code s.insns)) rom) (sym (rom_same b h (length s.insns) s.item stays.0)) (stand_second (code s.insns) (code (all_insns rest)) p b.core.rom split)) in
     let inside1 : h < length b1.core.harts = omega (arith, harts_same b h (length s.insns) s.item) in
-    let after = items_join b1 h (p + 4 * length s.insns) block rest inside1 (stands_after b h p block s.item s.insns inside stands spelled.0 within stays.0) spelled.1 stays.1 second in
+    let after = items_lead b1 h (p + 4 * length s.insns) block rest inside1 (stands_after b h p block s.item s.insns inside stands spelled.0 within stays.0) spelled.1 stays.1 second in
     let place : p + 4 * length s.insns + 4 * word_count rest ≡ p + 4 * (length s.insns + word_count rest) = omega arith in (
-      leads_join h (length s.insns) (word_count rest) b b1 (all_do h rest b1) (item_steps b h p block s.item s.insns inside stands spelled.0 first) after.0,
+      leads_join h (length s.insns) (word_count rest) b b1 (all_do h rest b1) (followed_leads s.item stays.0 h (length s.insns) b b1 (item_steps b h p block s.item s.insns inside stands spelled.0 first)) after.0,
       subst (λ q. Stands (memory_of (all_do h rest b1).core) (hart_of (all_do h rest b1).core h) q) place after.1,
     )

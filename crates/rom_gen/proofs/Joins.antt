@@ -10,9 +10,8 @@ use Rattle.hart_step.specs.Answers.{Access}
 use Rattle.hart_step.specs.Harts.{hart_of, is_in_debug, reset_hart}
 use Rattle.hart_step.specs.Memory.{MemoryState}
 use Rattle.hart_step.specs.Step.{Answer, HartAnswer, after_store, core_after, hart_step, harts_after, memory_of, rom_after, step, stored_by, without_reservation}
-use Rattle.hart_turns.specs.Gives.{board_after, board_gives, sent_by}
+use Rattle.hart_turns.specs.Gives.{board_after, board_gives, sent_by, board_step}
 use Rattle.hart_turns.specs.Boot.{Booting, Booted, Leads, Frees, after_boot_step, boot_hart, onward}
-use Rattle.hart_turns.specs.Gives.{board_step}
 use Rattle.hart_step.specs.Events.{exception_of}
 
 onward_stays : (h : ℕ) (e : Option (ℕ × ℕ)) (b : Booting) (go : Booting → Booted) → e ≡ None → is_in_debug (hart_of b.core h) ≡ true → onward h e b go ≡ go b

@@ -7,7 +7,8 @@ use Rattle.hart_step.specs.declared.hart.Hart.{Hart}
 use Rattle.hart_step.specs.Harts.{hart_of, register, reset_hart}
 use Rattle.hart_step.specs.Memory.{rom_base}
 use Rattle.hart_turns.specs.Boot.{Booting}
-use Rattle.rom_gen.specs.Items.{AllSpelled, Spelling, StandAt, all_do, becomes, hart_after, word_count}
+use Rattle.rom_gen.specs.ItemEffects.{AllSpelled, all_do, becomes, hart_after}
+use Rattle.rom_gen.specs.Items.{Spelling, StandAt, word_count}
 use Rattle.rom_gen.specs.Wants.{Want, Reg, Control, AllGood, AllInner, AllKeep, IsLayout, KeepsBase, Leaves, all_csrs, all_values, hart_all, placed, pool}
 use Rattle.rom_gen.proofs.Blocks.{inner_block}
 use Rattle.rom_gen.proofs.ItemSteps.{stand_first, stand_second}

@@ -1,16 +1,20 @@
 -- Writing the kept values back restores them.
 use Rattle.std.proofs.Common.{◌≡◌, ℕ, ◌+◌, refl}
-use Rattle.std.specs.Prelude.{Some}
+use Rattle.std.specs.Prelude.{List, [], ◌∷◌, Some}
 use Rattle.rv_alu.specs.declared.Mode.{Mode}
 use Rattle.rv_alu.specs.Modes.{level}
 use Rattle.csr_file.specs.Bits.{dcsr_fixed}
 use Rattle.csr_file.specs.Kept.{IsFit, kept_value, reset_debug_registers, reset_registers, with_kept, with_debug_kept}
-use Rattle.csr_file.specs.Legal.{kept_slots, legal, legal_debug_control}
+use Rattle.csr_file.specs.Legal.{Slot, kept_slots, legal, legal_debug_control}
 use Rattle.csr_file.specs.Numbers.{csr_dcsr, csr_dpc}
 use Rattle.csr_file.specs.Write.{written}
 use Rattle.csr_file.specs.declared.registers.Registers.{Registers}
 use Rattle.hart_step.specs.DebugReset.{debug_registers}
-use Rattle.rom_gen.specs.Restoring.{put_back}
+
+-- the registers after each slot was written with the value that t keeps there
+abbrev pub put_back : Registers → List Slot → Registers → Registers
+put_back t [] r = r
+put_back t (s ∷ rest) r = put_back t rest (written s.number (kept_value s.number t) r)
 
 pub kept_back : (t : Registers) → IsFit t → put_back t kept_slots (debug_registers t.hart) ≡ record t { debug = Some reset_debug_registers }
 unfolding kept_slots written kept_value with_kept reset_registers

@@ -1,5 +1,5 @@
 -- Booting from the ROM restores the machine.
-use Rattle.std.proofs.Common.{◌≡◌, ℕ, zero, suc, ◌+◌, ◌*◌, ◌%◌, ◌<◌, ◌≤◌, ⊎_elim, Bool, true, false, cond, List, [], ◌∷◌, ◌++◌, length, refl, sym, ap, ◌∙◌, arith, subst, length-append, map}
+use Rattle.std.proofs.Common.{◌≡◌, ℕ, zero, suc, ◌+◌, ◌%◌, ◌^◌, ◌<◌, ◌≤◌, ⊎_elim, Bool, true, false, cond, List, [], ◌∷◌, ◌++◌, length, refl, sym, ap, ◌∙◌, arith, subst, length-append, map, zero-add}
 use Rattle.std.specs.Prelude.{pos, All, Option, Some, None, is_some, is_none, slice_index, nat_lt}
 use Rattle.std.specs.List.{position, position_or_len}
 use Rattle.std.proofs.Math.ListN.{get_or}
@@ -9,7 +9,6 @@ use Rattle.std.proofs.lemmas.List.{append-nil, get_or-map, get_or_append_left, g
 use Rattle.std.proofs.lemmas.List.Elements.{All-set}
 use Rattle.std.proofs.lemmas.List.Folds.{list_any_at, list_any_none}
 use Rattle.std.proofs.lemmas.List.Sums.{fails_before_first}
-use Rattle.byteorder.specs.Endian.{little_bytes}
 use Rattle.rv_decode.specs.declared.Insn.{Insn}
 use Rattle.csr_file.specs.declared.registers.DebugRegs.{DebugRegs}
 use Rattle.clint.specs.State.{hart_count}
@@ -17,68 +16,97 @@ use Rattle.board_bus.specs.Board as board
 use Rattle.board_bus.specs.Board.{BoardState, reset_board}
 use Rattle.hart_step.specs.declared.hart.Hart.{Hart}
 use Rattle.hart_step.specs.Fit.{IsKept}
-use Rattle.hart_step.specs.Harts.{CoreState, is_in_debug, reset_hart}
+use Rattle.hart_step.specs.Harts.{CoreState, is_in_debug, reset_hart, hart_of}
 use Rattle.hart_step.specs.Memory.{most_rom, rom_base}
-use Rattle.hart_step.specs.Step.{unreserved, unreserved_hart}
-use Rattle.hart_turns.specs.Machine.{MachineState, is_running}
+use Rattle.hart_step.specs.Step.{unreserved, unreserved_hart, memory_of}
+use Rattle.hart_turns.specs.Machine.{MachineState, is_running, debug_machine}
 use Rattle.hart_turns.specs.Fit.{IsFit}
-use Rattle.hart_turns.specs.Boot.{Booting, Frees, Leads, boot_harts, most_steps}
-use Rattle.rom_gen.specs.Items.{Spelling, StandAt, becomes, code, word_count}
-use Rattle.hart_step.specs.DebugReset.{debug_registers}
-use Rattle.rom_gen.specs.Rom.{all_blocks, device_bytes, device_items, device_place, device_size, device_values, dispatch_insns, first_place, hart_bytes, hart_items, hart_values, places, pool_place, rom_bytes, starts, table}
-use Rattle.hart_step.specs.DebugReset.{debug_core, debug_harts, reset_debug_hart}
-use Rattle.rom_gen.proofs.AllHarts.{all_free, at_hart, half, half_done, half_later, half_length, rom_while, total}
-use Rattle.rom_gen.proofs.Deeds.{moved}
+use Rattle.hart_turns.specs.Boot.{Booting, Frees, Leads, boot_harts, most_steps, begins_boot}
+use Rattle.rom_gen.specs.Items.{Spelling, StandAt, code, word_count, Stands}
+use Rattle.rom_gen.specs.ItemEffects.{becomes, rom_while, moved, freed}
+use Rattle.hart_step.specs.DebugReset.{debug_registers, debug_core, debug_harts, reset_debug_hart}
+use Rattle.rom_gen.specs.Rom.{all_blocks, device_bytes, device_items, device_place, device_size, device_values, dispatch_insns, first_place, hart_bytes, hart_items, hart_values, start_places, pool_place, rom_bytes, block_places, table, addresses, dispatch_bytes}
+use Rattle.rom_gen.proofs.AllHarts.{all_free, at_hart, half, half_done, half_later, half_length, total}
 use Rattle.rom_gen.proofs.DeviceEnd.{device_block}
-use Rattle.rom_gen.proofs.Dispatched.{IsBegun, dispatched}
-use Rattle.rom_gen.proofs.HartBlock.{HasCome, IsTarget, freed, freed_moved, hart_frees}
+use Rattle.rom_gen.proofs.Dispatched.{dispatches, sent_comes}
+use Rattle.rom_gen.specs.Executed.{HasCome, HasBegun, NoneReserves, sent_on}
+use Rattle.rom_gen.proofs.HartBlock.{IsTarget, freed_moved, hart_block}
 use Rattle.rom_gen.proofs.ItemSteps.{code_length, stand_first, stand_second}
 use Rattle.hart_turns.proofs.BootSteps.{frees_join, leads_join}
-use Rattle.rom_gen.proofs.RomParts.{Laid, block_stands, blocks_length, device_count, device_even, device_fixed, device_length, device_small, device_words, entry_stands, first_start, hart_few, hart_fixed, hart_short, laid, start_even, start_small, starts_length, table_length}
-use Rattle.rom_gen.proofs.SecondLayout.{second_layout}
+use Rattle.rom_gen.proofs.RomParts.{Laid, block_stands, blocks_length, device_count, device_even, device_fixed, device_length, device_small, device_words, first_start, hart_few, hart_fixed, hart_short, laid, start_even, start_small, starts_length, table_length}
+use Rattle.rom_gen.proofs.WantLayout.{want_layout}
 use Rattle.rom_gen.proofs.Targets.{is_target}
+use Rattle.csr_file.specs.Kept.{reset_registers}
+use Rattle.csr_file.specs.declared.registers.Registers.{Registers}
 
 -- ---- where the parts stand
 
 record Parts (t : BoardState) (ts : List Hart) (rom : List ℕ) : Type 0 where
   small : length rom ≤ most_rom
-  dispatch : StandAt (code dispatch_insns) 0 rom
-  entries : (i : ℕ) → i < length ts → StandAt (little_bytes 8 (rom_base + slice_index (places t ts) i)) (24 + 8 * i) rom
-  device : StandAt (device_bytes t (first_place t ts)) (device_place ts) rom
-  blocks : (i : ℕ) (d : Hart) → i < length ts → StandAt (hart_bytes (get_or ts i d)) (slice_index (starts (first_place t ts) ts) i) rom
+  dispatch : StandAt (dispatch_bytes (addresses (start_places t ts))) 0 rom
+  device : StandAt (device_bytes t (rom_base + first_place t ts)) (device_place ts) rom
+  blocks : (i : ℕ) (d : Hart) → i < length ts → StandAt (hart_bytes (get_or ts i d)) (slice_index (block_places (first_place t ts) ts) i) rom
 
-pub places_length : (t : BoardState) (ts : List Hart) → length (places t ts) ≡ length ts
-places_length t ts = length-set (starts (first_place t ts) ts) 0 (device_place ts) ∙ starts_length (first_place t ts) ts
+pub places_length : (t : BoardState) (ts : List Hart) → length (start_places t ts) ≡ length ts
+places_length t ts = length-set (block_places (first_place t ts) ts) 0 (device_place ts) ∙ starts_length (first_place t ts) ts
+
+pub addresses_length : (t : BoardState) (ts : List Hart) → length (addresses (start_places t ts)) ≡ length ts
+addresses_length t ts = length-map (start_places t ts) (λ place. rom_base + place) ∙ places_length t ts
+
+dispatch_length : (t : BoardState) (ts : List Hart) → length (dispatch_bytes (addresses (start_places t ts))) ≡ device_place ts
+unfolding dispatch_bytes
+dispatch_length t ts =
+    let starts : List ℕ = addresses (start_places t ts) in
+    omega (arith, length-append (code dispatch_insns) (table starts), code_length dispatch_insns, table_length starts, addresses_length t ts)
 
 parts : (t : BoardState) (ts : List Hart) → board.IsFit t → length ts ≤ 8 → Parts t ts (rom_bytes t ts)
 parts t ts fit few =
     let first : ℕ = first_place t ts in
-    let a : List ℕ = code dispatch_insns in
-    let c : List ℕ = table (places t ts) in
-    let d : List ℕ = device_bytes t first in
+    let a : List ℕ = dispatch_bytes (addresses (start_places t ts)) in
+    let d : List ℕ = device_bytes t (rom_base + first) in
     let e : List ℕ = all_blocks ts in
-    let rom : List ℕ = a ++ (c ++ (d ++ e)) in
-    let a_length : length a ≡ 24 = code_length dispatch_insns in
-    let c_length : length c ≡ 8 * length ts = table_length (places t ts) ∙ ap (λ n. 8 * n) (places_length t ts) in
-    let d_length : length d ≡ device_size t = device_length t first in
+    let rom : List ℕ = a ++ (d ++ e) in
+    let a_length : length a ≡ device_place ts = dispatch_length t ts in
+    let d_length : length d ≡ device_size t = device_length t (rom_base + first) in
     let whole : StandAt rom 0 rom = ([], sym (append-nil rom)) in
-    let behind_a : StandAt (c ++ (d ++ e)) 24 rom = subst (λ q. StandAt (c ++ (d ++ e)) q rom) a_length (stand_second a (c ++ (d ++ e)) 0 rom whole) in
-    let behind_c : StandAt (d ++ e) (device_place ts) rom = subst (λ q. StandAt (d ++ e) q rom) (ap (λ n. 24 + n) c_length) (stand_second c (d ++ e) 24 rom behind_a) in
-    let behind_d : StandAt e first rom = subst (λ q. StandAt e q rom) (ap (λ n. device_place ts + n) d_length) (stand_second d e (device_place ts) rom behind_c) in
+    let behind_a : StandAt (d ++ e) (device_place ts) rom = subst (λ q. StandAt (d ++ e) q rom) (zero-add (length a) ∙ a_length) (stand_second a (d ++ e) 0 rom whole) in
+    let behind_d : StandAt e first rom = subst (λ q. StandAt e q rom) (ap (λ n. device_place ts + n) d_length) (stand_second d e (device_place ts) rom behind_a) in
     record {
-      small = omega (arith, length-append a (c ++ (d ++ e)), length-append c (d ++ e), length-append d e, a_length, c_length, d_length, device_small t fit, blocks_length ts, few);
-      dispatch = stand_first a (c ++ (d ++ e)) 0 rom whole;
-      entries = λ i within. entry_stands (places t ts) 24 i rom (omega (arith, places_length t ts)) (stand_first c (d ++ e) 24 rom behind_a);
-      device = stand_first d e (device_place ts) rom behind_c;
+      small = omega (arith, length-append a (d ++ e), length-append d e, a_length, d_length, device_small t fit, blocks_length ts, few);
+      dispatch = stand_first a (d ++ e) 0 rom whole;
+      device = stand_first d e (device_place ts) rom behind_a;
       blocks = λ i x within. block_stands ts first i x rom within behind_d;
     }
+
+-- where a hart goes on
+record IsStart (place : ℕ) : Type 0 where
+  aligned : place % 8 ≡ 0
+  near : place ≤ most_rom
+
+start_is_place : (t : BoardState) (ts : List Hart) (h : ℕ) → board.IsFit t → length ts ≤ 8 → h < length ts → IsStart (slice_index (start_places t ts) h)
+start_is_place t ts h fit few within =
+    let first : ℕ = first_place t ts in
+    ⊎_elim
+    (λ e. let is : slice_index (start_places t ts) h ≡ device_place ts = ap (slice_index (start_places t ts)) e ∙ get_or-set_same (block_places first ts) 0 (device_place ts) 0 (omega (arith, starts_length first ts)) in record { aligned = omega arith; near = omega arith })
+    (λ a. let is : slice_index (start_places t ts) h ≡ slice_index (block_places first ts) h = get_or-set_other (block_places first ts) 0 h (device_place ts) 0 a in
+    record { aligned = ap (λ q. q % 8) is ∙ start_even ts first h (omega (arith, device_even t)) within; near = omega (arith, start_small ts first h within, device_small t fit) })
+    (cases_eq h 0)
+
+pub address_at : (places : List ℕ) (h d : ℕ) → h < length places → get_or (addresses places) h d ≡ rom_base + slice_index places h
+address_at places h d within = get_or-map (λ place. rom_base + place) places h 0 d (omega (arith, length-map places (λ place. rom_base + place)))
+
+addresses_fit : (t : BoardState) (ts : List Hart) → board.IsFit t → length ts ≤ 8 → All (λ v. v < 2 ^ 64) (addresses (start_places t ts))
+addresses_fit t ts fit few i d within =
+    let inside : i < length ts = omega (arith, addresses_length t ts) in
+    let place : IsStart (slice_index (start_places t ts) i) = start_is_place t ts i fit few inside in
+    omega (arith, address_at (start_places t ts) i d (omega (arith, places_length t ts)), place.near)
 
 -- ---- the block of a hart
 
 abbrev pub hart_steps : Hart → ℕ
 hart_steps t = word_count (hart_items t (pool_place (hart_items t))) + 1
 
-hart_part : (b : Booting) (h block : ℕ) (t : Hart) → IsTarget t → HasCome b h block t → StandAt (hart_bytes t) block b.core.rom → Frees h (hart_steps t) b (freed h (hart_steps t) (unreserved_hart t) b.board b)
+pub hart_part : (b : Booting) (h block : ℕ) (t : Hart) → IsTarget t → HasCome b h block (debug_registers t.csrs.hart) → StandAt (hart_bytes t) block b.core.rom → Frees h (hart_steps t) b (freed h (hart_steps t) (unreserved_hart t) b.board b)
 unfolding hart_bytes
 hart_part b h block t target come there =
     let k : ℕ = pool_place (hart_items t) in
@@ -86,24 +114,24 @@ hart_part b h block t target come there =
     let n : ℕ = word_count (hart_items t 0) in
     let short : n ≤ 165 = hart_short t in
     let few : length (hart_values t) ≤ 55 = hart_few t in
-    hart_frees second_layout b h block k t target come (omega arith) (omega arith) stands.codes stands.pools
+    hart_block want_layout b h block k t target come (record { aligned = come.aligned; even = omega arith; room = omega arith; there = stands.pools }) stands.codes
 
 -- ---- the block of the devices
 
 abbrev pub device_steps : BoardState → ℕ → ℕ
-device_steps t next = word_count (device_items (pool_place (λ k. device_items k t next)) t next) + 1
+device_steps t next = word_count (device_items (pool_place (λ k. device_items k t (rom_base + next))) t (rom_base + next)) + 1
 
-device_part : (b : Booting) (h block next : ℕ) (t : BoardState) (owner : Hart) → board.IsFit t → length b.core.harts ≡ hart_count t.clint → b.board ≡ reset_board (hart_count t.clint) → All (λ (x : Hart). x.reservation ≡ None) b.core.harts → HasCome b h block owner → next % 8 ≡ 0 → next ≤ most_rom → StandAt (device_bytes t next) block b.core.rom →
-    (hart : Hart) × (Leads h (device_steps t next) b (moved h (device_steps t next) hart t b)) × HasCome (moved h (device_steps t next) hart t b) h next owner
+pub device_part : (b : Booting) (h block next : ℕ) (t : BoardState) (csrs : Registers) → board.IsFit t → length b.core.harts ≡ hart_count t.clint → b.board ≡ reset_board (hart_count t.clint) → NoneReserves b.core.harts → HasCome b h block csrs → next % 8 ≡ 0 → next ≤ most_rom → StandAt (device_bytes t (rom_base + next)) block b.core.rom →
+    (hart : Hart) × (Leads h (device_steps t next) b (moved h (device_steps t next) hart t b)) × HasCome (moved h (device_steps t next) hart t b) h next csrs
 unfolding device_bytes device_size
-device_part b h block next t owner fit count fresh free come even within there =
-    let items : ℕ → List Spelling = λ k. device_items k t next in
+device_part b h block next t csrs fit count fresh free come even within there =
+    let items : ℕ → List Spelling = λ k. device_items k t (rom_base + next) in
     let k : ℕ = pool_place items in
-    let stands : Laid items (Insn.Jalr 0 1 (pos 0)) (device_values t) block b.core.rom = laid items (Insn.Jalr 0 1 (pos 0)) (device_values t) block b.core.rom (device_fixed t next) there in
-    let n : ℕ = word_count (device_items 0 t next) in
+    let stands : Laid items (Insn.Jalr 0 1 (pos 0)) (device_values t) block b.core.rom = laid items (Insn.Jalr 0 1 (pos 0)) (device_values t) block b.core.rom (device_fixed t (rom_base + next)) there in
+    let n : ℕ = word_count (device_items 0 t (rom_base + next)) in
     let size : device_size t ≤ 1616 = device_small t fit in
-    let same : n ≡ word_count (device_items 0 t 0) = device_count t next in
-    device_block b h block k next t owner fit count fresh free come even within (record { aligned = come.aligned; even = omega arith; room = omega arith; there = stands.pools }) stands.codes
+    let same : n ≡ word_count (device_items 0 t 0) = device_count t (rom_base + next) in
+    device_block b h block k next t csrs fit count fresh free come even within (record { aligned = come.aligned; even = omega arith; room = omega arith; there = stands.pools }) stands.codes
 
 -- ---- harts in debug mode
 
@@ -160,37 +188,46 @@ start_of t core h = record {
   steps = total (steps_of t core.harts) h;
 }
 
-begun : (t : BoardState) (core : CoreState) (h : ℕ) → board.IsFit t → IsKept core → h < length core.harts → IsBegun (start_of t core h) h (slice_index (places t core.harts) h) (reset_debug_hart h) (get_or core.harts h (reset_hart 0 0))
-begun t core h fit kept within =
-    let ts : List Hart = core.harts in
-    let n : ℕ = length ts in
-    let ps : Parts t ts (rom_bytes t ts) = parts t ts fit kept.most in
-    let first : ℕ = first_place t ts in
-    let target : ℕ → Hart = target_of ts in
-    let fresh : List Hart = debug_harts n in
-    let number : (get_or ts h (reset_hart 0 0)).csrs.hart ≡ h = kept.numbers h within in
-    let most : n ≤ 8 = kept.most in
-    let all : length (half target fresh h) ≡ n = half_length target fresh h ∙ fresh_length n in
-    let place : ((slice_index (places t ts) h) % 8 ≡ 0) × (slice_index (places t ts) h ≤ most_rom) = ⊎_elim
-    (λ e. let is : slice_index (places t ts) h ≡ device_place ts = ap (slice_index (places t ts)) e ∙ get_or-set_same (starts first ts) 0 (device_place ts) 0 (omega (arith, starts_length first ts)) in (omega arith, omega arith))
-    (λ a. let is : slice_index (places t ts) h ≡ slice_index (starts first ts) h = get_or-set_other (starts first ts) 0 h (device_place ts) 0 a in
-    (ap (λ q. q % 8) is ∙ start_even ts first h (omega (arith, device_even t)) within, omega (arith, start_small ts first h within, device_small t fit)))
-    (cases_eq h 0) in
+begun_hart : (t : BoardState) (core : CoreState) (h : ℕ) → h < length core.harts → hart_of (start_of t core h).core h ≡ reset_debug_hart h
+begun_hart t core h within =
+    half_later (target_of core.harts) (debug_harts (length core.harts)) h h (reset_hart 0 0) (omega arith) ∙ fresh_at (length core.harts) h (reset_hart 0 0) within
+
+number_is : (h : ℕ) → (debug_registers h).hart ≡ h
+unfolding reset_registers
+number_is h = refl
+
+begun : (t : BoardState) (core : CoreState) (h : ℕ) → length (rom_bytes t core.harts) ≤ most_rom → h < length core.harts → HasBegun (start_of t core h) h
+begun t core h small within =
+    let fresh : List Hart = debug_harts (length core.harts) in
+    let here : hart_of (start_of t core h).core h ≡ reset_debug_hart h = begun_hart t core h within in
+    let stands : Stands (memory_of (start_of t core h).core) (reset_debug_hart h) 0 = record { debugs = refl; at = omega arith; nought = refl; count = refl; small = small } in
     record {
-      inside = omega arith;
-      few = omega arith;
-      is = half_later target fresh h h (reset_hart 0 0) (omega arith) ∙ fresh_at n h (reset_hart 0 0) within;
-      pc = refl;
-      count = refl;
-      nought = refl;
-      csrs = ap debug_registers (sym number);
-      number = number;
-      reservation = refl;
-      small = ps.small;
-      dispatch = ps.dispatch;
-      entry = ps.entries h within;
-      aligned = place.0;
-      within = place.1;
+      inside = omega (arith, half_length (target_of core.harts) fresh h, fresh_length (length core.harts));
+      stands = subst (λ x. Stands (memory_of (start_of t core h).core) x 0) (sym here) stands;
+      number = ap (λ (x : Hart). x.csrs.hart) here ∙ number_is h;
+    }
+
+-- hart h has executed the dispatch
+record Arrived (t : BoardState) (core : CoreState) (h place : ℕ) (csrs : Registers) : Type 0 where
+  next : Hart
+  leads : Leads h 6 (start_of t core h) (becomes h 6 next (start_of t core h))
+  come : HasCome (becomes h 6 next (start_of t core h)) h place csrs
+
+arrives : (t : BoardState) (core : CoreState) (h : ℕ) → board.IsFit t → IsKept core → h < length core.harts → Arrived t core h (slice_index (start_places t core.harts) h) (debug_registers h)
+arrives t core h fit kept within =
+    let ts : List Hart = core.harts in
+    let b : Booting = start_of t core h in
+    let ps : Parts t ts (rom_bytes t ts) = parts t ts fit kept.most in
+    let starts : List ℕ = addresses (start_places t ts) in
+    let start : IsStart (slice_index (start_places t ts) h) = start_is_place t ts h fit kept.most within in
+    let begins : HasBegun b h = begun t core h ps.small within in
+    let here : hart_of b.core h ≡ reset_debug_hart h = begun_hart t core h within in
+    let at : slice_index starts h ≡ rom_base + slice_index (start_places t ts) h = address_at (start_places t ts) h 0 (omega (arith, places_length t ts)) in
+    record {
+      next = sent_on h (rom_base + slice_index (start_places t ts) h) (hart_of b.core h);
+      leads = subst (λ v. Leads h 6 b (becomes h 6 (sent_on h v (hart_of b.core h)) b)) at
+          (dispatches starts (omega (arith, addresses_length t ts, kept.most)) (addresses_fit t ts fit kept.most) b h (omega (arith, addresses_length t ts)) begins ps.dispatch);
+      come = sent_comes b h (slice_index (start_places t ts) h) (debug_registers h) begins start.aligned start.near (ap (λ (x : Hart). x.csrs) here) (ap (λ (x : Hart). x.reservation) here);
     }
 
 -- hart h does its part
@@ -206,26 +243,28 @@ each t core zero fit kept count targets within =
     let most : n ≤ 8 = kept.most in
     let owner : Hart = get_or ts 0 (reset_hart 0 0) in
     let b : Booting = start_of t core 0 in
-    let begins = dispatched b 0 (slice_index (places t ts) 0) (reset_debug_hart 0) owner (begun t core 0 fit kept within) in
-    let next : Hart = begins.0 in
+    let arrived : Arrived t core 0 (slice_index (start_places t ts) 0) (debug_registers 0) = arrives t core 0 fit kept within in
+    let next : Hart = arrived.next in
+    let number : owner.csrs.hart ≡ 0 = kept.numbers 0 within in
     let b1 : Booting = becomes 0 6 next b in
-    let at : slice_index (places t ts) 0 ≡ device_place ts = get_or-set_same (starts first ts) 0 (device_place ts) 0 (omega (arith, starts_length first ts)) in
-    let come1 : HasCome b1 0 (device_place ts) owner = subst (λ p. HasCome b1 0 p owner) at begins.2 in
+    let at : slice_index (start_places t ts) 0 ≡ device_place ts = get_or-set_same (block_places first ts) 0 (device_place ts) 0 (omega (arith, starts_length first ts)) in
+    let come1 : HasCome b1 0 (device_place ts) (debug_registers 0) = subst (λ p. HasCome b1 0 p (debug_registers 0)) at arrived.come in
     let none : next.reservation ≡ None = ap (λ (x : Hart). x.reservation) (sym (get_or-set_same (debug_harts n) 0 next (reset_hart 0 0) (omega (arith, fresh_length n)))) ∙ come1.reservation in
     let free1 : All (λ (x : Hart). x.reservation ≡ None) b1.core.harts = All-set (λ (x : Hart). x.reservation ≡ None) (debug_harts n) 0 next none (fresh_free n) in
     let harts1 : length b1.core.harts ≡ hart_count t.clint = length-set (debug_harts n) 0 next ∙ fresh_length n ∙ sym count in
-    let devices = device_part b1 0 (device_place ts) first t owner fit harts1 (ap reset_board (sym count)) free1 come1 (omega (arith, device_even t)) (omega (arith, device_small t fit)) ps.device in
+    let devices = device_part b1 0 (device_place ts) first t (debug_registers 0) fit harts1 (ap reset_board (sym count)) free1 come1 (omega (arith, device_even t)) (omega (arith, device_small t fit)) ps.device in
     let m : ℕ = device_steps t first in
     let w : ℕ = hart_steps owner in
     let second : Hart = devices.0 in
     let b2 : Booting = moved 0 m second t b1 in
     let stands : StandAt (hart_bytes owner) first rom = subst (λ p. StandAt (hart_bytes owner) p rom) (first_start ts first within) (ps.blocks 0 (reset_hart 0 0) within) in
-    let frees : Frees 0 w b2 (freed 0 w (unreserved_hart owner) t b2) = hart_part b2 0 first owner (targets 0 within) devices.2 stands in
+    let come2 : HasCome b2 0 first (debug_registers owner.csrs.hart) = subst (λ k. HasCome b2 0 first (debug_registers k)) (sym number) devices.2 in
+    let frees : Frees 0 w b2 (freed 0 w (unreserved_hart owner) t b2) = hart_part b2 0 first owner (targets 0 within) come2 stands in
     let same : freed 0 w (unreserved_hart owner) t b2 ≡ freed 0 (6 + m + w) (unreserved_hart owner) t b =
     freed_moved 0 m w second (unreserved_hart owner) t t b1
     ∙ freed_moved 0 6 (m + w) next (unreserved_hart owner) (reset_board n) t b
     ∙ ap (λ k. freed 0 k (unreserved_hart owner) t b) (omega arith) in
-    subst (λ x. Frees 0 (6 + m + w) b x) same (frees_join 0 (6 + m) w b b2 _ (leads_join 0 6 m b b1 b2 begins.1 devices.1) frees)
+    subst (λ x. Frees 0 (6 + m + w) b x) same (frees_join 0 (6 + m) w b b2 _ (leads_join 0 6 m b b1 b2 arrived.leads devices.1) frees)
 each t core (suc g) fit kept count targets within =
     let h : ℕ = suc g in
     let ts : List Hart = core.harts in
@@ -235,28 +274,25 @@ each t core (suc g) fit kept count targets within =
     let first : ℕ = first_place t ts in
     let owner : Hart = get_or ts h (reset_hart 0 0) in
     let b : Booting = start_of t core h in
-    let begins = dispatched b h (slice_index (places t ts) h) (reset_debug_hart h) owner (begun t core h fit kept within) in
-    let next : Hart = begins.0 in
+    let arrived : Arrived t core h (slice_index (start_places t ts) h) (debug_registers h) = arrives t core h fit kept within in
+    let next : Hart = arrived.next in
+    let number : owner.csrs.hart ≡ h = kept.numbers h within in
     let b1 : Booting = becomes h 6 next b in
-    let at : slice_index (places t ts) h ≡ slice_index (starts first ts) h = get_or-set_other (starts first ts) 0 h (device_place ts) 0 (omega arith) in
-    let come1 : HasCome b1 h (slice_index (starts first ts) h) owner = subst (λ p. HasCome b1 h p owner) at begins.2 in
+    let at : slice_index (start_places t ts) h ≡ slice_index (block_places first ts) h = get_or-set_other (block_places first ts) 0 h (device_place ts) 0 (omega arith) in
+    let come1 : HasCome b1 h (slice_index (block_places first ts) h) (debug_registers owner.csrs.hart) = subst (λ k. HasCome b1 h (slice_index (block_places first ts) h) (debug_registers k)) (sym number) (subst (λ p. HasCome b1 h p (debug_registers h)) at arrived.come) in
     let w : ℕ = hart_steps owner in
-    let frees : Frees h w b1 (freed h w (unreserved_hart owner) t b1) = hart_part b1 h (slice_index (starts first ts) h) owner (targets h within) come1 (ps.blocks h (reset_hart 0 0) within) in
+    let frees : Frees h w b1 (freed h w (unreserved_hart owner) t b1) = hart_part b1 h (slice_index (block_places first ts) h) owner (targets h within) come1 (ps.blocks h (reset_hart 0 0) within) in
     let same : freed h w (unreserved_hart owner) t b1 ≡ freed h (6 + w) (unreserved_hart owner) t b = freed_moved h 6 w next (unreserved_hart owner) t t b in
-    subst (λ x. Frees h (6 + w) b x) same (frees_join h 6 w b b1 _ begins.1 frees)
+    subst (λ x. Frees h (6 + w) b x) same (frees_join h 6 w b b1 _ arrived.leads frees)
 
 few_steps : (t : BoardState) (ts : List Hart) (h : ℕ) → board.IsFit t → steps_of t ts h ≤ most_steps
 few_steps t ts zero fit =
     let first : ℕ = first_place t ts in
     let owner : Hart = get_or ts 0 (reset_hart 0 0) in
-    omega (arith, device_fixed t first (pool_place (λ k. device_items k t first)), device_words t first fit, hart_fixed owner (pool_place (hart_items owner)), hart_short owner)
+    omega (arith, device_fixed t (rom_base + first) (pool_place (λ k. device_items k t (rom_base + first))), device_words t (rom_base + first) fit, hart_fixed owner (pool_place (hart_items owner)), hart_short owner)
 few_steps t ts (suc h) fit =
     let owner : Hart = get_or ts (suc h) (reset_hart 0 0) in
     omega (arith, hart_fixed owner (pool_place (hart_items owner)), hart_short owner)
-
--- the machine that boots
-abbrev pub debug_machine : MachineState → Booting
-debug_machine m = record { core = debug_core m.shape.harts m.core.ram (rom_bytes m.board m.core.harts); board = reset_board m.shape.harts; console = []; steps = 0 }
 
 last_board : (t : BoardState) (k n : ℕ) → 0 < n → boards_of t k n ≡ t
 last_board t k zero some = absurd (omega arith)
@@ -264,7 +300,7 @@ last_board t k (suc n) some = refl
 
 pub restores : (m : MachineState) → IsFit m → is_running m ≡ true →
     (length (rom_bytes m.board m.core.harts) ≤ most_rom)
-    × (boot_harts m.shape.harts (debug_machine m) ≡ record { left = record { core = unreserved m.core; board = m.board; console = []; steps = total (steps_of m.board m.core.harts) m.shape.harts }; fault = None })
+    × (boot_harts m.shape.harts (begins_boot (debug_machine m.shape m.taken m.core.ram (rom_bytes m.board m.core.harts))) ≡ record { left = record { core = unreserved m.core; board = m.board; console = []; steps = total (steps_of m.board m.core.harts) m.shape.harts }; fault = None })
 unfolding half
 restores m fit running =
     let t : BoardState = m.board in

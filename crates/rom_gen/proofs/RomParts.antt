@@ -13,18 +13,17 @@ use Rattle.csr_file.specs.Numbers.{csr_dcsr, csr_dpc}
 use Rattle.clint.specs.State.{hart_count}
 use Rattle.board_bus.specs.Board.{BoardState, IsFit}
 use Rattle.hart_step.specs.declared.hart.Hart.{Hart}
-use Rattle.hart_step.specs.Memory.{rom_base}
 use Rattle.rom_gen.specs.Items.{Put, Store, Word, Double, Spelling, StandAt, Width, all_insns, code, size_of, store_insn, word_count}
 use Rattle.rom_gen.specs.HartWants.{controls, first_wants, numbered, registers, slot_wants}
-use Rattle.rom_gen.specs.Wants.{Want, Reg, Control, all_values, high_part, low_part, is_short, is_small, placed, pool, put_insns, second_spell, second_values, short_values}
+use Rattle.rom_gen.specs.Wants.{Want, Reg, Control, all_values, high_part, low_part, is_short, is_small, placed, pool, put_insns, want_items, want_values, put_values}
 use Rattle.rom_gen.specs.Deeds.{Deed, Aim, Save, Again, Read, all_deed_values, deed_items, deed_values, placed_deeds}
 use Rattle.rom_gen.specs.DeviceBlock.{compare_deeds, context_deeds, device_deeds, queue_deeds, soft_deeds, timer_deeds}
-use Rattle.rom_gen.specs.Rom.{all_blocks, block_bytes, block_size, block_words, device_bytes, device_items, device_size, device_values, far_insns, hart_bytes, hart_items, hart_size, hart_values, padding, pool_place, rounded, starts, table}
+use Rattle.rom_gen.specs.Rom.{all_blocks, block_bytes, block_size, block_words, device_bytes, device_items, device_size, device_values, far_insns, hart_bytes, hart_items, hart_size, hart_values, padding, pool_place, rounded, block_places, table}
 use Rattle.rom_gen.proofs.Deeds.{count_append}
 use Rattle.rom_gen.proofs.HartBlock.{insns_count}
 use Rattle.rom_gen.proofs.ItemSteps.{code_length, stand_first, stand_second}
 use Rattle.rom_gen.proofs.Placed.{pool_length}
-use Rattle.rom_gen.proofs.Sizes.{placed_fixed, placed_short, put_fixed, put_short, second_sized}
+use Rattle.rom_gen.proofs.Sizes.{placed_fixed, placed_short, put_fixed, put_short, want_sized}
 
 -- ---- a block
 
@@ -62,8 +61,8 @@ pub hart_fixed : (t : Hart) (k : ℕ) → word_count (hart_items t k) ≡ word_c
 hart_fixed t k =
     let ws : List Want = first_wants t in
     let l : Want = Reg 1 (slice_index t.x 1) in
-    let n : ℕ = 8 * length (all_values second_values ws) in
-    omega (arith, count_append (placed second_spell second_values k ws) (second_spell (k + n) l), count_append (placed second_spell second_values 0 ws) (second_spell (0 + n) l), placed_fixed second_values second_sized k 0 ws, second_sized.fixed (k + n) l, second_sized.fixed (0 + n) l)
+    let n : ℕ = 8 * length (all_values want_values ws) in
+    omega (arith, count_append (placed want_items want_values k ws) (want_items (k + n) l), count_append (placed want_items want_values 0 ws) (want_items (0 + n) l), placed_fixed want_values want_sized k 0 ws, want_sized.fixed (k + n) l, want_sized.fixed (0 + n) l)
 
 slots_length : (t : Hart) → length (slot_wants t.csrs kept_slots) ≡ 22
 unfolding slot_wants kept_slots
@@ -83,28 +82,28 @@ pub hart_short : (t : Hart) → word_count (hart_items t 0) ≤ 165
 hart_short t =
     let ws : List Want = first_wants t in
     let l : Want = Reg 1 (slice_index t.x 1) in
-    let n : ℕ = 8 * length (all_values second_values ws) in
-    omega (arith, count_append (placed second_spell second_values 0 ws) (second_spell (0 + n) l), placed_short second_values second_sized 0 ws, second_sized.short (0 + n) l, wants_length t)
+    let n : ℕ = 8 * length (all_values want_values ws) in
+    omega (arith, count_append (placed want_items want_values 0 ws) (want_items (0 + n) l), placed_short want_values want_sized 0 ws, want_sized.short (0 + n) l, wants_length t)
 
 some_values : (b c : Bool) (v : ℕ) → length (cond b [] (cond c [] (v ∷ []))) ≤ 1
 some_values true c v = omega arith
 some_values false true v = omega arith
 some_values false false v = omega arith
 
-want_values : (d : Bool) (v : ℕ) → length (cond d [] (short_values v)) ≤ 1
-want_values true v = omega arith
-want_values false v = some_values (is_small v) (is_short v) v
+choice_few : (d : Bool) (v : ℕ) → length (cond d [] (put_values v)) ≤ 1
+choice_few true v = omega arith
+choice_few false v = some_values (is_small v) (is_short v) v
 
-pub one_value : (w : Want) → length (second_values w) ≤ 1
+pub one_value : (w : Want) → length (want_values w) ≤ 1
 one_value (Reg r v) = some_values (is_small v) (is_short v) v
-one_value (Control number v) = want_values (nat_le v 31) v
+one_value (Control number v) = choice_few (nat_le v 31) v
 
-values_few : (ws : List Want) → length (all_values second_values ws) ≤ length ws
+values_few : (ws : List Want) → length (all_values want_values ws) ≤ length ws
 values_few [] = omega arith
-values_few (w ∷ ws) = omega (arith, length-append (second_values w) (all_values second_values ws), one_value w, values_few ws)
+values_few (w ∷ ws) = omega (arith, length-append (want_values w) (all_values want_values ws), one_value w, values_few ws)
 
 pub hart_few : (t : Hart) → length (hart_values t) ≤ 55
-hart_few t = omega (arith, length-append (all_values second_values (first_wants t)) (second_values (Reg 1 (slice_index t.x 1))), values_few (first_wants t), one_value (Reg 1 (slice_index t.x 1)), wants_length t)
+hart_few t = omega (arith, length-append (all_values want_values (first_wants t)) (want_values (Reg 1 (slice_index t.x 1))), values_few (first_wants t), one_value (Reg 1 (slice_index t.x 1)), wants_length t)
 
 pub hart_length : (t : Hart) → length (hart_bytes t) ≡ hart_size t
 unfolding hart_bytes hart_size
@@ -146,11 +145,11 @@ deeds_fixed k k' (d ∷ ds) =
 
 pub device_fixed : (t : BoardState) (next k : ℕ) → word_count (device_items k t next) ≡ word_count (device_items 0 t next)
 device_fixed t next k =
-    let last : List Spelling = record { item = Put 1 (rom_base + next); insns = far_insns (rom_base + next) } ∷ [] in
+    let last : List Spelling = record { item = Put 1 next; insns = far_insns next } ∷ [] in
     omega (arith, count_append (placed_deeds k (device_deeds t)) last, count_append (placed_deeds 0 (device_deeds t)) last, deeds_fixed k 0 (device_deeds t))
 
 pub device_count : (t : BoardState) (next : ℕ) → word_count (device_items 0 t next) ≡ word_count (device_items 0 t 0)
-device_count t next = count_append (placed_deeds 0 (device_deeds t)) (record { item = Put 1 (rom_base + next); insns = far_insns (rom_base + next) } ∷ []) ∙ sym (count_append (placed_deeds 0 (device_deeds t)) (record { item = Put 1 (rom_base + 0); insns = far_insns (rom_base + 0) } ∷ []))
+device_count t next = count_append (placed_deeds 0 (device_deeds t)) (record { item = Put 1 next; insns = far_insns next } ∷ []) ∙ sym (count_append (placed_deeds 0 (device_deeds t)) (record { item = Put 1 0; insns = far_insns 0 } ∷ []))
 
 pub device_length : (t : BoardState) (next : ℕ) → length (device_bytes t next) ≡ device_size t
 unfolding device_bytes device_size
@@ -161,7 +160,7 @@ put_cost true c k v = omega arith
 put_cost false true k v = omega arith
 put_cost false false k v = omega arith
 
-save_cost : (z : Bool) (v by : ℕ) (w : Width) (off : ℤ) → 4 * word_count (saves z true true 0 v w by off) + 8 * length (cond z [] (short_values v)) ≤ 16
+save_cost : (z : Bool) (v by : ℕ) (w : Width) (off : ℤ) → 4 * word_count (saves z true true 0 v w by off) + 8 * length (cond z [] (put_values v)) ≤ 16
 unfolding saves
 save_cost true v by w off = omega arith
 save_cost false v by w off = let e = put_cost (is_small v) (is_short v) 0 v in omega arith
@@ -234,12 +233,12 @@ deeds_few t fit =
 
 pub device_words : (t : BoardState) (next : ℕ) → IsFit t → word_count (device_items 0 t next) ≤ 302
 device_words t next fit =
-    omega (arith, count_append (placed_deeds 0 (device_deeds t)) (record { item = Put 1 (rom_base + next); insns = far_insns (rom_base + next) } ∷ []), deeds_words (device_deeds t), deeds_few t fit)
+    omega (arith, count_append (placed_deeds 0 (device_deeds t)) (record { item = Put 1 next; insns = far_insns next } ∷ []), deeds_words (device_deeds t), deeds_few t fit)
 
 pub device_small : (t : BoardState) → IsFit t → device_size t ≤ 1616
 unfolding device_size
 device_small t fit =
-    omega (arith, count_append (placed_deeds 0 (device_deeds t)) (record { item = Put 1 (rom_base + 0); insns = far_insns (rom_base + 0) } ∷ []), deeds_cost (device_deeds t), deeds_few t fit)
+    omega (arith, count_append (placed_deeds 0 (device_deeds t)) (record { item = Put 1 0; insns = far_insns 0 } ∷ []), deeds_cost (device_deeds t), deeds_few t fit)
 
 pub device_even : (t : BoardState) → device_size t % 8 ≡ 0
 unfolding device_size
@@ -247,26 +246,26 @@ device_even t = let n : ℕ = word_count (device_items 0 t 0) in omega arith
 
 -- ---- one part after another
 
-pub entry_stands : (ps : List ℕ) (p i : ℕ) (rom : List ℕ) → i < length ps → StandAt (table ps) p rom → StandAt (little_bytes 8 (rom_base + slice_index ps i)) (p + 8 * i) rom
+pub entry_stands : (starts : List ℕ) (p i : ℕ) (rom : List ℕ) → i < length starts → StandAt (table starts) p rom → StandAt (little_bytes 8 (slice_index starts i)) (p + 8 * i) rom
 unfolding table
 entry_stands [] p i rom within there = absurd (omega arith)
-entry_stands (x ∷ ps) p zero rom within there = subst (λ q. StandAt (little_bytes 8 (rom_base + x)) q rom) (omega arith) (stand_first (little_bytes 8 (rom_base + x)) (table ps) p rom there)
-entry_stands (x ∷ ps) p (suc i) rom within there =
+entry_stands (x ∷ starts) p zero rom within there = subst (λ q. StandAt (little_bytes 8 x) q rom) (omega arith) (stand_first (little_bytes 8 x) (table starts) p rom there)
+entry_stands (x ∷ starts) p (suc i) rom within there =
     let place : p + 8 + 8 * i ≡ p + 8 * suc i = omega arith in
-    subst (λ q. StandAt (little_bytes 8 (rom_base + slice_index ps i)) q rom) place (entry_stands ps (p + 8) i rom (omega arith) (stand_second (little_bytes 8 (rom_base + x)) (table ps) p rom there))
+    subst (λ q. StandAt (little_bytes 8 (slice_index starts i)) q rom) place (entry_stands starts (p + 8) i rom (omega arith) (stand_second (little_bytes 8 x) (table starts) p rom there))
 
-pub table_length : (ps : List ℕ) → length (table ps) ≡ 8 * length ps
+pub table_length : (starts : List ℕ) → length (table starts) ≡ 8 * length starts
 unfolding table
 table_length [] = refl
-table_length (x ∷ ps) = let e = table_length ps in omega (arith, length-append (little_bytes 8 (rom_base + x)) (table ps))
+table_length (x ∷ starts) = let e = table_length starts in omega (arith, length-append (little_bytes 8 x) (table starts))
 
-pub starts_length : (p : ℕ) (ts : List Hart) → length (starts p ts) ≡ length ts
-unfolding starts
+pub starts_length : (p : ℕ) (ts : List Hart) → length (block_places p ts) ≡ length ts
+unfolding block_places
 starts_length p [] = refl
 starts_length p (t ∷ ts) = ap (λ n. suc n) (starts_length (p + hart_size t) ts)
 
-pub block_stands : (ts : List Hart) (p i : ℕ) (d : Hart) (rom : List ℕ) → i < length ts → StandAt (all_blocks ts) p rom → StandAt (hart_bytes (get_or ts i d)) (slice_index (starts p ts) i) rom
-unfolding starts all_blocks
+pub block_stands : (ts : List Hart) (p i : ℕ) (d : Hart) (rom : List ℕ) → i < length ts → StandAt (all_blocks ts) p rom → StandAt (hart_bytes (get_or ts i d)) (slice_index (block_places p ts) i) rom
+unfolding block_places all_blocks
 block_stands [] p i d rom within there = absurd (omega arith)
 block_stands (t ∷ ts) p zero d rom within there = stand_first (hart_bytes t) (all_blocks ts) p rom there
 block_stands (t ∷ ts) p (suc i) d rom within there = block_stands ts (p + hart_size t) i d rom (omega arith) (subst (λ q. StandAt (all_blocks ts) q rom) (ap (λ n. p + n) (hart_length t)) (stand_second (hart_bytes t) (all_blocks ts) p rom there))
@@ -276,19 +275,19 @@ unfolding all_blocks
 blocks_length [] = omega arith
 blocks_length (t ∷ ts) = omega (arith, length-append (hart_bytes t) (all_blocks ts), hart_length t, hart_small t, blocks_length ts)
 
-pub start_even : (ts : List Hart) (p i : ℕ) → p % 8 ≡ 0 → i < length ts → slice_index (starts p ts) i % 8 ≡ 0
-unfolding starts
+pub start_even : (ts : List Hart) (p i : ℕ) → p % 8 ≡ 0 → i < length ts → slice_index (block_places p ts) i % 8 ≡ 0
+unfolding block_places
 start_even [] p i even within = absurd (omega arith)
 start_even (t ∷ ts) p zero even within = even
 start_even (t ∷ ts) p (suc i) even within = start_even ts (p + hart_size t) i (omega (arith, hart_even t)) (omega arith)
 
-pub start_small : (ts : List Hart) (p i : ℕ) → i < length ts → slice_index (starts p ts) i ≤ p + 1112 * i
-unfolding starts
+pub start_small : (ts : List Hart) (p i : ℕ) → i < length ts → slice_index (block_places p ts) i ≤ p + 1112 * i
+unfolding block_places
 start_small [] p i within = absurd (omega arith)
 start_small (t ∷ ts) p zero within = omega arith
 start_small (t ∷ ts) p (suc i) within = let e = start_small ts (p + hart_size t) i (omega arith) in omega (arith, hart_small t)
 
-pub first_start : (ts : List Hart) (p : ℕ) → 0 < length ts → slice_index (starts p ts) 0 ≡ p
-unfolding starts
+pub first_start : (ts : List Hart) (p : ℕ) → 0 < length ts → slice_index (block_places p ts) 0 ≡ p
+unfolding block_places
 first_start [] p some = absurd (omega arith)
 first_start (t ∷ ts) p some = refl

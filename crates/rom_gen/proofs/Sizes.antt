@@ -3,7 +3,7 @@ use Rattle.std.proofs.Common.{◌≡◌, ℕ, ◌+◌, ◌*◌, ◌≤◌, Bool,
 use Rattle.std.specs.Prelude.{pos}
 use Rattle.rv_decode.specs.declared.Insn.{Insn}
 use Rattle.rom_gen.specs.Items.{Csr, CsrImm, Put, Spelling, word_count}
-use Rattle.rom_gen.specs.Wants.{Want, Reg, Control, high_part, is_short, is_small, low_part, placed, put_insns, second_spell}
+use Rattle.rom_gen.specs.Wants.{Want, Reg, Control, high_part, is_short, is_small, low_part, placed, put_insns, want_items}
 
 pub record IsSized (spell : ℕ → Want → List Spelling) : Type 0 where
   pub short : (off : ℕ) (w : Want) → word_count (spell off w) ≤ 3
@@ -49,15 +49,15 @@ unfolding control_of
 control_fixed true off number v = refl
 control_fixed false off number v = ap (λ n. n + (1 + 0)) (put_fixed off 0 2 v (is_small v) (is_short v))
 
-second_short : (off : ℕ) (w : Want) → word_count (second_spell off w) ≤ 3
+want_short : (off : ℕ) (w : Want) → word_count (want_items off w) ≤ 3
 unfolding control_of
-second_short off (Reg r v) = let k = put_short off r v (is_small v) (is_short v) in omega arith
-second_short off (Control number v) = control_short (nat_le v 31) off number v
+want_short off (Reg r v) = let k = put_short off r v (is_small v) (is_short v) in omega arith
+want_short off (Control number v) = control_short (nat_le v 31) off number v
 
-second_fixed : (off : ℕ) (w : Want) → word_count (second_spell off w) ≡ word_count (second_spell 0 w)
+want_fixed : (off : ℕ) (w : Want) → word_count (want_items off w) ≡ word_count (want_items 0 w)
 unfolding control_of
-second_fixed off (Reg r v) = ap (λ n. n + 0) (put_fixed off 0 r v (is_small v) (is_short v))
-second_fixed off (Control number v) = control_fixed (nat_le v 31) off number v
+want_fixed off (Reg r v) = ap (λ n. n + 0) (put_fixed off 0 r v (is_small v) (is_short v))
+want_fixed off (Control number v) = control_fixed (nat_le v 31) off number v
 
-pub second_sized : IsSized second_spell
-second_sized = record { short = second_short; fixed = second_fixed }
+pub want_sized : IsSized want_items
+want_sized = record { short = want_short; fixed = want_fixed }

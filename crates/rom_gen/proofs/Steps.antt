@@ -1,15 +1,14 @@
 -- One step of a hart in debug mode at a word that stands in the ROM.
-use Rattle.std.proofs.Common.{◌≡◌, ℕ, ◌+◌, ◌/◌, ◌%◌, ◌^◌, ◌<◌, ◌≤◌, true, false, cond, not, ◌&&◌, List, ◌++◌, length, drop, refl, sym, ap, ◌∙◌, arith, ◌==◌, subst}
+use Rattle.std.proofs.Common.{◌≡◌, ℕ, ◌/◌, ◌%◌, ◌^◌, ◌<◌, true, false, cond, not, ◌&&◌, List, ◌++◌, drop, refl, sym, ap, ◌∙◌, arith, ◌==◌, subst}
 use Rattle.std.specs.Prelude.{◌||◌, bit_and, nat_le, Bool, is_some, Some, None, Ok, Err, ℤ, pos, negsuc}
 use Rattle.byteorder.specs.Endian.{little_bytes}
 use Rattle.rv_alu.specs.declared.BinOp.{BinOp}
 use Rattle.rv_alu.specs.Arithmetic.{alu_of, modulo}
 use Rattle.rv_decode.specs.declared.Insn.{Insn}
 use Rattle.rv_decode.specs.Encode.{encoded}
-use Rattle.rv_decode.specs.Ranges.{IsInRange}
+use Rattle.rv_decode.specs.Ranges.{IsInRange, IsSigned}
 use Rattle.rv_decode.proofs.Encoded.{encoded_is_decoded_lem}
 use Rattle.rv_alu.specs.declared.Mode.{Mode}
-use Rattle.rv_decode.specs.Ranges.{IsSigned}
 use Rattle.csr_file.specs.Access.{allows, may_access}
 use Rattle.csr_file.specs.Bits.{mstatus_tvm}
 use Rattle.csr_file.specs.Numbers.{csr_satp, is_debug_number, is_user_counter, is_listed, is_read_only}
@@ -18,7 +17,7 @@ use Rattle.csr_file.specs.Write.{written}
 use Rattle.hart_step.specs.declared.hart.Hart.{Hart}
 use Rattle.hart_step.specs.Answers.{Access, Given, Untouched}
 use Rattle.hart_step.specs.Harts.{is_in_debug, register}
-use Rattle.hart_step.specs.Memory.{exception, MemoryState, most_rom, rom_base}
+use Rattle.hart_step.specs.Memory.{exception, MemoryState}
 use Rattle.hart_step.specs.Effects.{Effect, effect, pc_after, shows_write, with_memory, with_write, writes}
 use Rattle.hart_step.specs.Shown.{Done}
 use Rattle.hart_step.specs.Step.{HartAnswer, commits, from_decoded, from_fetched, from_interrupt, hart_step, retired, shows, stored_by}
@@ -26,16 +25,8 @@ use Rattle.rom_gen.proofs.Fetch.{rom_fetched}
 use Rattle.std.proofs.lemmas.Bool.{and_parts, le-leb}
 use Rattle.rom_gen.proofs.Joins.{Does}
 use Rattle.hart_step.specs.Events.{exception_of}
-use Rattle.rom_gen.proofs.Words.{IsWord, word_r_fits, modulo_12}
-use Rattle.rom_gen.specs.Items.{is_writable}
-
--- a hart in debug mode that stands at place p of the ROM
-pub record Stands (memory : MemoryState) (hart : Hart) (p : ℕ) : Type 0 where
-  pub debugs : is_in_debug hart ≡ true
-  pub at : hart.pc ≡ rom_base + p
-  pub nought : register hart 0 ≡ 0
-  pub count : length hart.x ≡ 32
-  pub small : length memory.rom ≤ most_rom
+use Rattle.rom_gen.proofs.WordForms.{IsWord, word_r_fits, modulo_12}
+use Rattle.rom_gen.specs.Items.{is_writable, Stands}
 
 -- the step at an instruction's word is the instruction's effect
 pub at_word : (given : Given) (n h : ℕ) (hart : Hart) (memory : MemoryState) (p : ℕ) (rest : List ℕ) (insn : Insn) → Stands memory hart p → given.interrupt ≡ None → IsInRange insn → IsWord (encoded insn) → drop p memory.rom ≡ little_bytes 4 (encoded insn) ++ rest → hart_step given n h hart memory ≡ shows h hart (encoded insn) (effect given n 4 (encoded insn) insn hart memory)

@@ -16,9 +16,8 @@ use Rattle.byteorder.specs.Endian.{little_bytes}
 use Rattle.rv_decode.specs.Encode.{encoded}
 use Rattle.rom_gen.specs.Items.{Spelling, all_insns, code, word_count}
 use Rattle.rom_gen.proofs.HartBlock.{insns_count}
-use Rattle.rom_gen.specs.HartWants.{first_wants, numbered, slot_wants}
-use Rattle.rom_gen.specs.Layout.{number_of}
-use Rattle.rom_gen.specs.Wants.{Want, Reg, Control, all_values, placed, pool, put_insns, second_spell, second_values, short_values}
+use Rattle.rom_gen.specs.HartWants.{first_wants, numbered, slot_wants, number_of}
+use Rattle.rom_gen.specs.Wants.{Want, Reg, Control, all_values, placed, pool, put_insns, want_items, want_values, put_values}
 use Rattle.rom_gen.specs.Writing.{Adds, Wrote, number_wants, offset_of}
 use Rattle.rom_gen.specs.declared.writer.Writer.{Writer}
 use Rattle.rom_gen.proofs.ItemSteps.{code_append, code_length}
@@ -29,9 +28,9 @@ pub insns_append : (a c : List Spelling) → all_insns (a ++ c) ≡ all_insns a 
 insns_append [] c = refl
 insns_append (s ∷ a) c = ap (λ x. s.insns ++ x) (insns_append a c) ∙ sym (append_assoc s.insns (all_insns a) (all_insns c))
 
-values_append : (ws vs : List Want) → all_values second_values (ws ++ vs) ≡ all_values second_values ws ++ all_values second_values vs
+values_append : (ws vs : List Want) → all_values want_values (ws ++ vs) ≡ all_values want_values ws ++ all_values want_values vs
 values_append [] vs = refl
-values_append (w ∷ ws) vs = ap (λ x. second_values w ++ x) (values_append ws vs) ∙ sym (append_assoc (second_values w) (all_values second_values ws) (all_values second_values vs))
+values_append (w ∷ ws) vs = ap (λ x. want_values w ++ x) (values_append ws vs) ∙ sym (append_assoc (want_values w) (all_values want_values ws) (all_values want_values vs))
 
 pub adds_join : (a b c : Writer) (first second : List Insn) (us vs : List ℕ) → Adds a b first us → Adds b c second vs → Adds a c (first ++ second) (us ++ vs)
 adds_join a b c first second us vs one two = record {
@@ -49,17 +48,17 @@ wrote_none a = record { code = sym (append-nil a.code.items); pool = sym (append
 
 pub wrote_join : (a b c : Writer) (ws vs : List Want) → Wrote a b ws → Wrote b c vs → Wrote a c (ws ++ vs)
 wrote_join a b c ws vs one two =
-    let next : ℕ = offset_of a + 8 * length (all_values second_values ws) in
-    let second : Adds b c (all_insns (placed second_spell second_values next vs)) (all_values second_values vs) = subst (λ k. Adds b c (all_insns (placed second_spell second_values k vs)) (all_values second_values vs)) (offset_on a b (all_insns (placed second_spell second_values (offset_of a) ws)) (all_values second_values ws) one) two in
-    subst (λ x. Adds a c (all_insns x) (all_values second_values (ws ++ vs))) (sym (placed_append second_spell second_values (offset_of a) ws vs))
-    (subst (λ x. Adds a c x (all_values second_values (ws ++ vs))) (sym (insns_append (placed second_spell second_values (offset_of a) ws) (placed second_spell second_values next vs)))
-    (subst (λ x. Adds a c (all_insns (placed second_spell second_values (offset_of a) ws) ++ all_insns (placed second_spell second_values next vs)) x) (sym (values_append ws vs))
-    (adds_join a b c (all_insns (placed second_spell second_values (offset_of a) ws)) (all_insns (placed second_spell second_values next vs)) (all_values second_values ws) (all_values second_values vs) one second)))
+    let next : ℕ = offset_of a + 8 * length (all_values want_values ws) in
+    let second : Adds b c (all_insns (placed want_items want_values next vs)) (all_values want_values vs) = subst (λ k. Adds b c (all_insns (placed want_items want_values k vs)) (all_values want_values vs)) (offset_on a b (all_insns (placed want_items want_values (offset_of a) ws)) (all_values want_values ws) one) two in
+    subst (λ x. Adds a c (all_insns x) (all_values want_values (ws ++ vs))) (sym (placed_append want_items want_values (offset_of a) ws vs))
+    (subst (λ x. Adds a c x (all_values want_values (ws ++ vs))) (sym (insns_append (placed want_items want_values (offset_of a) ws) (placed want_items want_values next vs)))
+    (subst (λ x. Adds a c (all_insns (placed want_items want_values (offset_of a) ws) ++ all_insns (placed want_items want_values next vs)) x) (sym (values_append ws vs))
+    (adds_join a b c (all_insns (placed want_items want_values (offset_of a) ws)) (all_insns (placed want_items want_values next vs)) (all_values want_values ws) (all_values want_values vs) one second)))
 
-pub wrote_one : (a b : Writer) (w : Want) → Adds a b (all_insns (second_spell (offset_of a) w)) (second_values w) → Wrote a b (w ∷ [])
+pub wrote_one : (a b : Writer) (w : Want) → Adds a b (all_insns (want_items (offset_of a) w)) (want_values w) → Wrote a b (w ∷ [])
 wrote_one a b w adds =
-    subst (λ x. Adds a b (all_insns x) (second_values w ++ [])) (sym (append-nil (second_spell (offset_of a) w)))
-    (subst (λ x. Adds a b (all_insns (second_spell (offset_of a) w)) x) (sym (append-nil (second_values w))) adds)
+    subst (λ x. Adds a b (all_insns x) (want_values w ++ [])) (sym (append-nil (want_items (offset_of a) w)))
+    (subst (λ x. Adds a b (all_insns (want_items (offset_of a) w)) x) (sym (append-nil (want_values w))) adds)
 
 -- ---- the lists of the loops, with one element more
 
@@ -80,32 +79,32 @@ unfolding slot_wants number_wants
 slots_by_number r [] = refl
 slots_by_number r (s ∷ slots) = ap (λ ws. Control s.number (kept_value s.number r) ∷ ws) (slots_by_number r slots)
 
-pub slot_written : (start now next : Writer) (r : Registers) (numbers : List ℕ) (i : ℕ) → i < length numbers → Wrote start now (number_wants r (take i numbers)) → Adds now next (all_insns (second_spell (offset_of now) (Control (slice_index numbers i) (kept_value (slice_index numbers i) r)))) (second_values (Control (slice_index numbers i) (kept_value (slice_index numbers i) r))) → Wrote start next (number_wants r (take (i + 1) numbers))
+pub slot_written : (start now next : Writer) (r : Registers) (numbers : List ℕ) (i : ℕ) → i < length numbers → Wrote start now (number_wants r (take i numbers)) → Adds now next (all_insns (want_items (offset_of now) (Control (slice_index numbers i) (kept_value (slice_index numbers i) r)))) (want_values (Control (slice_index numbers i) (kept_value (slice_index numbers i) r))) → Wrote start next (number_wants r (take (i + 1) numbers))
 slot_written start now next r numbers i within wrote adds =
     let w : Want = Control (slice_index numbers i) (kept_value (slice_index numbers i) r) in
     subst (λ ws. Wrote start next ws) (sym (ap (number_wants r) (take_more numbers i 0 within) ∙ numbers_more r (take i numbers) (slice_index numbers i)))
     (wrote_join start now next (number_wants r (take i numbers)) (w ∷ []) wrote (wrote_one now next w adds))
 
-pub put_one : (now next : Writer) (r v : ℕ) → Adds now next (put_insns (offset_of now) r v) (short_values v) → Adds now next (all_insns (second_spell (offset_of now) (Reg r v))) (second_values (Reg r v))
-put_one now next r v adds = subst (λ x. Adds now next x (short_values v)) (sym (append-nil (put_insns (offset_of now) r v))) adds
+pub put_one : (now next : Writer) (r v : ℕ) → Adds now next (put_insns (offset_of now) r v) (put_values v) → Adds now next (all_insns (want_items (offset_of now) (Reg r v))) (want_values (Reg r v))
+put_one now next r v adds = subst (λ x. Adds now next x (put_values v)) (sym (append-nil (put_insns (offset_of now) r v))) adds
 
-pub register_written : (start now next : Writer) (xs : List ℕ) (i r v : ℕ) → r ≡ 2 + i → v ≡ slice_index xs (2 + i) → Wrote start now (numbered i 2 xs) → Adds now next (put_insns (offset_of now) r v) (short_values v) → Wrote start next (numbered (i + 1) 2 xs)
+pub register_written : (start now next : Writer) (xs : List ℕ) (i r v : ℕ) → r ≡ 2 + i → v ≡ slice_index xs (2 + i) → Wrote start now (numbered i 2 xs) → Adds now next (put_insns (offset_of now) r v) (put_values v) → Wrote start next (numbered (i + 1) 2 xs)
 register_written start now next xs i r v r_is v_is wrote adds =
     let w : Want = Reg (2 + i) (slice_index xs (2 + i)) in
     let on : suc i ≡ i + 1 = omega arith in
-    let here : Adds now next (put_insns (offset_of now) (2 + i) (slice_index xs (2 + i))) (short_values (slice_index xs (2 + i))) =
-    subst (λ k. Adds now next (put_insns (offset_of now) k (slice_index xs (2 + i))) (short_values (slice_index xs (2 + i)))) r_is (subst (λ x. Adds now next (put_insns (offset_of now) r x) (short_values x)) v_is adds) in
-    let one : Adds now next (all_insns (second_spell (offset_of now) w)) (second_values w) = put_one now next (2 + i) (slice_index xs (2 + i)) here in
+    let here : Adds now next (put_insns (offset_of now) (2 + i) (slice_index xs (2 + i))) (put_values (slice_index xs (2 + i))) =
+    subst (λ k. Adds now next (put_insns (offset_of now) k (slice_index xs (2 + i))) (put_values (slice_index xs (2 + i)))) r_is (subst (λ x. Adds now next (put_insns (offset_of now) r x) (put_values x)) v_is adds) in
+    let one : Adds now next (all_insns (want_items (offset_of now) w)) (want_values w) = put_one now next (2 + i) (slice_index xs (2 + i)) here in
     subst (λ ws. Wrote start next ws) (sym (numbered_more i 2 xs) ∙ ap (λ n. numbered n 2 xs) on) (wrote_join start now next (numbered i 2 xs) (w ∷ []) wrote (wrote_one now next w one))
 
 -- a want adds a value to the pool, or none
 pub room_on : (now next : Writer) (insns : List Insn) (us : List ℕ) (from i : ℕ) → Adds now next insns us → length us ≤ 1 → offset_of now ≤ from + 8 * i → offset_of next ≤ from + 8 * (i + 1)
 room_on now next insns us from i adds few room = omega (arith, offset_on now next insns us adds)
 
-pub control_few : (number v : ℕ) → length (second_values (Control number v)) ≤ 1
+pub control_few : (number v : ℕ) → length (want_values (Control number v)) ≤ 1
 control_few number v = one_value (Control number v)
 
-pub put_few : (v : ℕ) → length (short_values v) ≤ 1
+pub put_few : (v : ℕ) → length (put_values v) ≤ 1
 put_few v = one_value (Reg 1 v)
 
 -- ---- a test of each number of a list
@@ -122,7 +121,7 @@ from_all_of p (x ∷ xs) e (suc k) d within = from_all_of p xs (and_parts (p x) 
 -- ---- a hart
 
 pub hart_written : (a b c d e f : Writer) (t : Hart) (r : Registers) (numbers : List ℕ) (v1 v2 v3 : ℕ) → r ≡ t.csrs → numbers ≡ map number_of kept_slots → v1 ≡ dcsr_fixed + level t.mode → v2 ≡ t.pc → v3 ≡ slice_index t.x 1 →
-    Wrote a b (number_wants r numbers) → Adds b c (all_insns (second_spell (offset_of b) (Control csr_dcsr v1))) (second_values (Control csr_dcsr v1)) → Adds c d (all_insns (second_spell (offset_of c) (Control csr_dpc v2))) (second_values (Control csr_dpc v2)) → Wrote d e (numbered 30 2 t.x) → Adds e f (put_insns (offset_of e) 1 v3) (short_values v3) →
+    Wrote a b (number_wants r numbers) → Adds b c (all_insns (want_items (offset_of b) (Control csr_dcsr v1))) (want_values (Control csr_dcsr v1)) → Adds c d (all_insns (want_items (offset_of c) (Control csr_dpc v2))) (want_values (Control csr_dpc v2)) → Wrote d e (numbered 30 2 t.x) → Adds e f (put_insns (offset_of e) 1 v3) (put_values v3) →
     Adds a f (all_insns (hart_items t (offset_of a))) (hart_values t)
 hart_written a b c d e f t r numbers v1 v2 v3 same all is1 is2 is3 slots control pc xs last =
     let ws : List Want = slot_wants t.csrs kept_slots in
@@ -130,19 +129,19 @@ hart_written a b c d e f t r numbers v1 v2 v3 same all is1 is2 is3 slots control
     let w2 : Want = Control csr_dpc t.pc in
     let w3 : Want = Reg 1 (slice_index t.x 1) in
     let one : Wrote a b ws = subst (λ x. Wrote a b x) (ap (λ x. number_wants x numbers) same ∙ ap (number_wants t.csrs) all ∙ sym (slots_by_number t.csrs kept_slots)) slots in
-    let two : Wrote b c (w1 ∷ []) = wrote_one b c w1 (subst (λ v. Adds b c (all_insns (second_spell (offset_of b) (Control csr_dcsr v))) (second_values (Control csr_dcsr v))) is1 control) in
-    let three : Wrote c d (w2 ∷ []) = wrote_one c d w2 (subst (λ v. Adds c d (all_insns (second_spell (offset_of c) (Control csr_dpc v))) (second_values (Control csr_dpc v))) is2 pc) in
+    let two : Wrote b c (w1 ∷ []) = wrote_one b c w1 (subst (λ v. Adds b c (all_insns (want_items (offset_of b) (Control csr_dcsr v))) (want_values (Control csr_dcsr v))) is1 control) in
+    let three : Wrote c d (w2 ∷ []) = wrote_one c d w2 (subst (λ v. Adds c d (all_insns (want_items (offset_of c) (Control csr_dpc v))) (want_values (Control csr_dpc v))) is2 pc) in
     let four : Wrote a d (ws ++ (w1 ∷ w2 ∷ [])) = wrote_join a b d ws (w1 ∷ w2 ∷ []) one (wrote_join b c d (w1 ∷ []) (w2 ∷ []) two three) in
     let five : Wrote a e (first_wants t) = wrote_join a d e (ws ++ (w1 ∷ w2 ∷ [])) (numbered 30 2 t.x) four xs in
-    let here : Adds e f (all_insns (second_spell (offset_of e) w3)) (second_values w3) = put_one e f 1 (slice_index t.x 1) (subst (λ v. Adds e f (put_insns (offset_of e) 1 v) (short_values v)) is3 last) in
-    let us : List ℕ = all_values second_values (first_wants t) in
+    let here : Adds e f (all_insns (want_items (offset_of e) w3)) (want_values w3) = put_one e f 1 (slice_index t.x 1) (subst (λ v. Adds e f (put_insns (offset_of e) 1 v) (put_values v)) is3 last) in
+    let us : List ℕ = all_values want_values (first_wants t) in
     let next : ℕ = offset_of a + 8 * length us in
-    let items : List Spelling = placed second_spell second_values (offset_of a) (first_wants t) in
-    let six : Adds e f (all_insns (second_spell next w3)) (second_values w3) = subst (λ k. Adds e f (all_insns (second_spell k w3)) (second_values w3)) (offset_on a e (all_insns items) us five) here in
-    subst (λ x. Adds a f x (us ++ second_values w3)) (sym (insns_append items (second_spell next w3))) (adds_join a e f (all_insns items) (all_insns (second_spell next w3)) us (second_values w3) five six)
+    let items : List Spelling = placed want_items want_values (offset_of a) (first_wants t) in
+    let six : Adds e f (all_insns (want_items next w3)) (want_values w3) = subst (λ k. Adds e f (all_insns (want_items k w3)) (want_values w3)) (offset_on a e (all_insns items) us five) here in
+    subst (λ x. Adds a f x (us ++ want_values w3)) (sym (insns_append items (want_items next w3))) (adds_join a e f (all_insns items) (all_insns (want_items next w3)) us (want_values w3) five six)
 
-pub control_room : (a b : Writer) (number v : ℕ) → Adds a b (all_insns (second_spell (offset_of a) (Control number v))) (second_values (Control number v)) → offset_of b ≤ offset_of a + 8
-control_room a b number v adds = omega (arith, offset_on a b (all_insns (second_spell (offset_of a) (Control number v))) (second_values (Control number v)) adds, control_few number v)
+pub control_room : (a b : Writer) (number v : ℕ) → Adds a b (all_insns (want_items (offset_of a) (Control number v))) (want_values (Control number v)) → offset_of b ≤ offset_of a + 8
+control_room a b number v adds = omega (arith, offset_on a b (all_insns (want_items (offset_of a) (Control number v))) (want_values (Control number v)) adds, control_few number v)
 
 -- ---- a block, drafted for its length and then written
 

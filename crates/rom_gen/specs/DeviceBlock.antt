@@ -1,34 +1,16 @@
--- The deeds of the device block, from the devices that it puts back.
+-- The deeds of the block of the devices, in their order, from the devices that it puts back.
 use Rattle.std.specs.Prelude.{ℕ, pos, negsuc, zero, suc, ◌+◌, ◌*◌, List, [], ◌∷◌, slice_index}
 use Rattle.plic.specs.State.{context_count}
 use Rattle.board_bus.specs.Board.{BoardState, hart_count}
 use Rattle.rom_gen.specs.Items.{Byte, Word, Double}
 use Rattle.rom_gen.specs.Deeds.{Deed, Aim, Save, Again, Read}
 
--- the bytes of the queue, and then the rest
-unfoldable pub queue_deeds : List ℕ → List Deed → List Deed
-queue_deeds [] rest = rest
-queue_deeds (x ∷ q) rest = Save Byte x 2 (pos 0) 0x10000000 ∷ queue_deeds q rest
+-- Each list goes on with the rest, which is its last argument.
 
--- k contexts from c on, with these enables and thresholds
-unfoldable pub context_deeds : ℕ → ℕ → List ℕ → List ℕ → List Deed → List Deed
-context_deeds zero c es ts rest = rest
-context_deeds (suc k) c es ts rest =
-    Save Word (slice_index es c) 4 (pos (128 * c)) (0xc002000 + 128 * c)
-    ∷ Aim 5 (0xc200000 + 4096 * c)
-    ∷ Save Word (slice_index ts c) 5 (pos 0) (0xc200000 + 4096 * c)
-    ∷ context_deeds k (suc c) es ts rest
-
--- k harts from h on: their msip bits, and their mtimecmp
-unfoldable pub soft_deeds : ℕ → ℕ → List ℕ → List Deed → List Deed
-soft_deeds zero h xs rest = rest
-soft_deeds (suc k) h xs rest = Save Word (slice_index xs h) 5 (pos (4 * h)) (0x2000000 + 4 * h) ∷ soft_deeds k (suc h) xs rest
-
-unfoldable pub compare_deeds : ℕ → ℕ → List ℕ → List Deed → List Deed
-compare_deeds zero h xs rest = rest
-compare_deeds (suc k) h xs rest = Save Double (slice_index xs h) 7 (pos (8 * h)) (0x2004000 + 8 * h) ∷ compare_deeds k (suc h) xs rest
-
--- base registers, and the served marks by claims of sources that are made pending for that
+-- The served marks, which no store sets. Both sources get priority 1, context 0 enables those that are to be served, and
+-- the console raises both levels: its receive and transmit interrupts are on (ctrl 7), in loop mode, in which what is
+-- sent waits in the queue; the byte 0 is sent. Then each of two claims serves one of those sources, or none is left.
+-- The load takes the byte out of the queue. All that is changed here, but for the marks, is put back further below
 abbrev pub marks_deeds : ℕ → List Deed → List Deed
 marks_deeds served rest =
     Aim 2 0x10000000 ∷ Aim 3 0xc000000 ∷ Aim 4 0xc002000 ∷ Aim 5 0xc200000
@@ -36,6 +18,29 @@ marks_deeds served rest =
     ∷ Save Word served 4 (pos 0) 0xc002000 ∷ Save Word 7 2 (pos 8) 0x10000008 ∷ Save Byte 0 2 (pos 0) 0x10000000
     ∷ Read Word 5 (pos 4) 0xc200004 ∷ Read Word 5 (pos 4) 0xc200004 ∷ Read Byte 2 (pos 0) 0x10000000
     ∷ rest
+
+-- the bytes that wait, which are sent in loop mode
+unfoldable pub queue_deeds : List ℕ → List Deed → List Deed
+queue_deeds [] rest = rest
+queue_deeds (byte ∷ queue) rest = Save Byte byte 2 (pos 0) 0x10000000 ∷ queue_deeds queue rest
+
+-- k contexts from c on: the word of enable bits, and the threshold
+unfoldable pub context_deeds : ℕ → ℕ → List ℕ → List ℕ → List Deed → List Deed
+context_deeds zero c enables thresholds rest = rest
+context_deeds (suc k) c enables thresholds rest =
+    Save Word (slice_index enables c) 4 (pos (128 * c)) (0xc002000 + 128 * c)
+    ∷ Aim 5 (0xc200000 + 4096 * c)
+    ∷ Save Word (slice_index thresholds c) 5 (pos 0) (0xc200000 + 4096 * c)
+    ∷ context_deeds k (suc c) enables thresholds rest
+
+-- k harts from h on: msip, and mtimecmp
+unfoldable pub soft_deeds : ℕ → ℕ → List ℕ → List Deed → List Deed
+soft_deeds zero h bits rest = rest
+soft_deeds (suc k) h bits rest = Save Word (slice_index bits h) 5 (pos (4 * h)) (0x2000000 + 4 * h) ∷ soft_deeds k (suc h) bits rest
+
+unfoldable pub compare_deeds : ℕ → ℕ → List ℕ → List Deed → List Deed
+compare_deeds zero h times rest = rest
+compare_deeds (suc k) h times rest = Save Double (slice_index times h) 7 (pos (8 * h)) (0x2004000 + 8 * h) ∷ compare_deeds k (suc h) times rest
 
 abbrev pub timer_deeds : BoardState → List Deed
 timer_deeds b =

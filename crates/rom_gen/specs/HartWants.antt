@@ -1,4 +1,4 @@
--- What is wanted of a hart.
+-- The wants of the block of a hart, in their order.
 use Rattle.std.specs.Prelude.{ℕ, zero, suc, ◌+◌, List, [], ◌∷◌, ◌++◌, slice_index}
 use Rattle.rv_alu.specs.Modes.{level}
 use Rattle.csr_file.specs.Bits.{dcsr_fixed}
@@ -9,21 +9,27 @@ use Rattle.csr_file.specs.declared.registers.Registers.{Registers}
 use Rattle.hart_step.specs.declared.hart.Hart.{Hart}
 use Rattle.rom_gen.specs.Wants.{Want, Reg, Control}
 
-unfoldable pub slot_wants : Registers → List Slot → List Want
-slot_wants t [] = []
-slot_wants t (s ∷ rest) = Control s.number (kept_value s.number t) ∷ slot_wants t rest
+abbrev pub number_of : Slot → ℕ
+number_of s = s.number
 
--- the registers x from i on, n of them
+-- the control and status registers of these slots
+unfoldable pub slot_wants : Registers → List Slot → List Want
+slot_wants csrs [] = []
+slot_wants csrs (s ∷ rest) = Control s.number (kept_value s.number csrs) ∷ slot_wants csrs rest
+
+-- n registers x, from number i on
 unfoldable pub numbered : ℕ → ℕ → List ℕ → List Want
 numbered zero i xs = []
 numbered (suc n) i xs = Reg i (slice_index xs i) ∷ numbered n (suc i) xs
 
+-- those that every hart keeps, and the two that dret reads: the mode and the pc (External Debug Support, "Debug Control
+-- and Status" and "Debug PC")
 abbrev pub controls : Hart → List Want
-controls t = slot_wants t.csrs kept_slots ++ (Control csr_dcsr (dcsr_fixed + level t.mode) ∷ Control csr_dpc t.pc ∷ [])
+controls target = slot_wants target.csrs kept_slots ++ (Control csr_dcsr (dcsr_fixed + level target.mode) ∷ Control csr_dpc target.pc ∷ [])
 
 abbrev pub registers : Hart → List Want
-registers t = numbered 30 2 t.x
+registers target = numbered 30 2 target.x
 
--- all but the last, which overwrites the block's address in x1
+-- all but the last want, x1, which has the block's address until then
 abbrev pub first_wants : Hart → List Want
-first_wants t = controls t ++ registers t
+first_wants target = controls target ++ registers target

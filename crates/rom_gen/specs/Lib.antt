@@ -1,9 +1,10 @@
 pub mod Items
-pub mod Restoring
-pub mod Layout
+pub mod ItemEffects
 pub mod Wants
 pub mod HartWants
 pub mod Deeds
 pub mod DeviceBlock
 pub mod Rom
+pub mod Executed
+pub mod Laws
 pub mod Writing

@@ -1,4 +1,4 @@
--- What a hart's block puts back, whatever the spelling: a register's value, or a control and status register's.
+-- The wants of a hart's block: the values that registers are to have, and how each is spelled.
 use Rattle.std.specs.Prelude.{◌≡◌, ◌≢◌, ℕ, ℤ, ◌-◌, ◌+◌, ◌*◌, ◌<◌, ◌≤◌, ◌%◌, ◌^◌, List, [], ◌∷◌, ◌++◌, length, slice_index, slice_set, true, pos, ◌/◌, ◌||◌, nat_lt, nat_le, Bool, if◌then◌else◌}
 use Rattle.byteorder.specs.Endian.{little_bytes}
 use Rattle.rv_alu.specs.Arithmetic.{signed}
@@ -9,13 +9,15 @@ use Rattle.hart_step.specs.declared.hart.Hart.{Hart}
 use Rattle.hart_step.specs.Harts.{hart_of, register}
 use Rattle.hart_step.specs.Memory.{rom_base}
 use Rattle.hart_turns.specs.Boot.{Booting}
-use Rattle.rom_gen.specs.Items.{AllSpelled, Item, Put, Csr, CsrImm, Store, Load, Go, Spelling, StandAt, hart_after, is_writable}
+use Rattle.rom_gen.specs.Items.{Item, Put, Csr, CsrImm, Store, Load, Go, Leave, Spelling, StandAt, is_writable}
+use Rattle.rom_gen.specs.ItemEffects.{AllSpelled, hart_after}
 
+-- Reg: a register x is to have a value. Control: a control and status register is to be written with one
 pub data Want : Type 0 where
   Reg : ℕ → ℕ → Want
   Control : ℕ → ℕ → Want
 
--- it can be wanted: one of x1 to x31, or a register that debug mode may write
+-- one of x1 to x31, or a register that debug mode may write, with a value of 64 bits
 abbrev pub IsGood : Want → Type 0
 IsGood (Reg r v) = (0 < r) × (r < 32) × (v < 2 ^ 64)
 IsGood (Control number v) = (number < 4096) × (is_writable number ≡ true) × (v < 2 ^ 64)
@@ -24,7 +26,7 @@ abbrev pub AllGood : List Want → Type 0
 AllGood [] = Unit {0}
 AllGood (w ∷ rest) = IsGood w × AllGood rest
 
--- x1 stays, which has the block's address
+-- x1 stays as it is, which has the block's address
 abbrev pub KeepsBase : Want → Type 0
 KeepsBase (Reg r v) = 1 < r
 KeepsBase (Control number v) = Unit {0}
@@ -57,7 +59,14 @@ abbrev pub pool : List ℕ → List ℕ
 pool [] = []
 pool (v ∷ rest) = little_bytes 8 v ++ pool rest
 
--- no item of the list reaches a device
+-- the pool of these values stands in a block, at the offset off
+pub record Pooled (block off : ℕ) (values : List ℕ) (rom : List ℕ) : Type 0 where
+  pub aligned : block % 8 ≡ 0
+  pub even : off % 8 ≡ 0
+  pub room : off + 8 * length values ≤ 2048
+  pub there : StandAt (pool values) (block + off) rom
+
+-- an item that changes the hart alone, and goes on behind its words
 abbrev pub IsInner : Item → Type 0
 IsInner (Put r v) = Unit {0}
 IsInner (Csr num r) = Unit {0}
@@ -65,6 +74,7 @@ IsInner (CsrImm num u) = Unit {0}
 IsInner (Store size r at off) = ⊥
 IsInner (Load size r at off) = ⊥
 IsInner (Go r) = ⊥
+IsInner Leave = ⊥
 
 abbrev pub AllInner : List Spelling → Type 0
 AllInner [] = Unit {0}
@@ -90,34 +100,40 @@ abbrev pub all_values : (Want → List ℕ) → List Want → List ℕ
 all_values values [] = []
 all_values values (w ∷ rest) = values w ++ all_values values rest
 
--- the shorter layout: a value goes in as an immediate where it can
+-- ---- the spelling of a want: a value goes in as an immediate where it can, and stands in the pool where it cannot
+
+-- a signed number of twelve bits, as a word of 64
 unfoldable pub is_small : ℕ → Bool
 is_small v = nat_lt v 2048 || nat_le (2 ^ 64 - 2048) v
 
+-- a signed number of 32 bits
 unfoldable pub is_short : ℕ → Bool
 is_short v = nat_lt v (2 ^ 31) || nat_le (2 ^ 64 - 2 ^ 31) v
 
+-- the signed number of the low twelve bits, and the rest in 32 bits, to which addiw adds it
 abbrev pub low_part : ℕ → ℤ
 low_part v = signed 12 (v % 4096)
 
 abbrev pub high_part : ℕ → ℤ
 high_part v = signed 32 ((v + 2048) / 4096 % 1048576 * 4096)
 
+-- a value goes into a register where the next value of the pool has the offset off, and what it adds to the pool
 abbrev pub put_insns : ℕ → ℕ → ℕ → List Insn
 put_insns off r v =
     if is_small v then Insn.Addi r 0 (low_part v) ∷ []
     else if is_short v then Insn.Lui r (high_part v) ∷ Insn.Addiw r r (low_part v) ∷ []
     else Insn.Ld r 1 (pos off) ∷ []
 
-abbrev pub short_values : ℕ → List ℕ
-short_values v = if is_small v then [] else if is_short v then [] else v ∷ []
+abbrev pub put_values : ℕ → List ℕ
+put_values v = if is_small v then [] else if is_short v then [] else v ∷ []
 
-abbrev pub second_spell : ℕ → Want → List Spelling
-second_spell off (Reg r v) = record { item = Put r v; insns = put_insns off r v } ∷ []
-second_spell off (Control number v) =
+-- a control and status register goes through x2, but for the values of csrrwi
+abbrev pub want_items : ℕ → Want → List Spelling
+want_items off (Reg r v) = record { item = Put r v; insns = put_insns off r v } ∷ []
+want_items off (Control number v) =
     if nat_le v 31 then record { item = CsrImm number v; insns = Insn.Csrrwi 0 v number ∷ [] } ∷ []
     else record { item = Put 2 v; insns = put_insns off 2 v } ∷ record { item = Csr number 2; insns = Insn.Csrrw 0 2 number ∷ [] } ∷ []
 
-abbrev pub second_values : Want → List ℕ
-second_values (Reg r v) = short_values v
-second_values (Control number v) = if nat_le v 31 then [] else short_values v
+abbrev pub want_values : Want → List ℕ
+want_values (Reg r v) = put_values v
+want_values (Control number v) = if nat_le v 31 then [] else put_values v

@@ -4,7 +4,7 @@ use Rattle.rom_gen.specs.Items.{word_count}
 use Rattle.rom_gen.specs.Rom.{hart_items, hart_values, pool_place}
 use Rattle.rom_gen.proofs.RomParts.{hart_fixed}
 use Rattle.rom_gen.proofs.Writings.{drafted, hart_bytes_written, hart_drafted, offset_begun, place_drafted}
-use Rattle.rom_gen.proofs.writer.hart_block.Goals as goal
+use Rattle.rom_gen.proofs.hart_block.hart_block.Goals as goal
 
 pub pool_place-requires : goal.pool_place-requires
 pool_place-requires c = let e = hart_drafted c.args.hart.now c.new-draft.result c.hart.new.self c.new-draft.ensures.code c.in_ok-hart.ensures in omega arith

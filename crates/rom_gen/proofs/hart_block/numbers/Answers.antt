@@ -1,7 +1,7 @@
 use Rattle.std.proofs.Common.{refl, [], ◌∷◌}
 use Rattle.csr_file.specs.Legal.{keeps_value, kept_slots, slots}
 use Rattle.rom_gen.proofs.Writings.{from_all_of}
-use Rattle.rom_gen.proofs.numbers.Goals as goal
+use Rattle.rom_gen.proofs.hart_block.numbers.Goals as goal
 
 pub returns-clause-kept : goal.returns-clause-kept
 unfolding keeps_value kept_slots slots

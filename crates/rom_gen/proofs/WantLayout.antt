@@ -15,8 +15,9 @@ use Rattle.hart_step.specs.Harts.{hart_of, register}
 use Rattle.hart_step.specs.Effects.{pc_after, with_write}
 use Rattle.hart_step.specs.Memory.{MemoryState, rom_base}
 use Rattle.hart_turns.specs.Boot.{Booting}
-use Rattle.rom_gen.specs.Items.{AllSpelled, Csr, CsrImm, Put, Spelled, Spelling, StandAt, csr, csr_imm, pooled, small, pair}
-use Rattle.rom_gen.specs.Wants.{AllInner, Want, Reg, Control, IsGood, IsLayout, Leaves, hart_all, high_part, is_short, is_small, low_part, pool, put_insns, second_spell, second_values, short_values}
+use Rattle.rom_gen.specs.ItemEffects.{AllSpelled}
+use Rattle.rom_gen.specs.Items.{Csr, CsrImm, Put, Spelled, Spelling, StandAt, csr, csr_imm, pooled, small, pair}
+use Rattle.rom_gen.specs.Wants.{AllInner, Want, Reg, Control, IsGood, IsLayout, Leaves, hart_all, high_part, is_short, is_small, low_part, pool, put_insns, want_items, want_values, put_values}
 use Rattle.rom_gen.proofs.ItemSteps.{put_is, stand_first}
 
 -- ---- the parts of a value
@@ -101,13 +102,13 @@ long_control off number v = record { item = Put 2 v; insns = put_insns off 2 v }
 abbrev control_spell : Bool → ℕ → ℕ → ℕ → List Spelling
 control_spell d off number v = cond d (record { item = CsrImm number v; insns = Insn.Csrrwi 0 v number ∷ [] } ∷ []) (long_control off number v)
 
-control_spelled : (h block off : ℕ) (b : Booting) (number v : ℕ) (d : Bool) → nat_le v 31 ≡ d → IsGood (Control number v) → register (hart_of b.core h) 1 ≡ rom_base + block → block % 8 ≡ 0 → off % 8 ≡ 0 → off + 8 * length (cond d [] (short_values v)) ≤ 2048 → StandAt (pool (cond d [] (short_values v))) (block + off) b.core.rom → AllSpelled h block (control_spell d off number v) b
+control_spelled : (h block off : ℕ) (b : Booting) (number v : ℕ) (d : Bool) → nat_le v 31 ≡ d → IsGood (Control number v) → register (hart_of b.core h) 1 ≡ rom_base + block → block % 8 ≡ 0 → off % 8 ≡ 0 → off + 8 * length (cond d [] (put_values v)) ≤ 2048 → StandAt (pool (cond d [] (put_values v))) (block + off) b.core.rom → AllSpelled h block (control_spell d off number v) b
 control_spelled h block off b number v true is good at aligned even room there = (csr_imm number v (let k = leb-true v 31 is in omega arith) good.0 good.1, tt)
 control_spelled h block off b number v false is good at aligned even room there = (put_spelled _ _ _ block off 2 v (is_small v) (is_short v) refl refl (omega arith) (omega arith) good.2 at aligned even room there, (csr number 2 (omega arith) good.0 good.1, tt))
 
-second_spelled : (h block off : ℕ) (b : Booting) (w : Want) → IsGood w → h < length b.core.harts → length (hart_of b.core h).x ≡ 32 → register (hart_of b.core h) 1 ≡ rom_base + block → block % 8 ≡ 0 → off % 8 ≡ 0 → off + 8 * length (second_values w) ≤ 2048 → StandAt (pool (second_values w)) (block + off) b.core.rom → AllSpelled h block (second_spell off w) b
-second_spelled h block off b (Reg r v) good inside count at aligned even room there = (put_spelled _ _ _ block off r v (is_small v) (is_short v) refl refl good.0 good.1 good.2 at aligned even room there, tt)
-second_spelled h block off b (Control number v) good inside count at aligned even room there = control_spelled h block off b number v (nat_le v 31) refl good at aligned even room there
+want_spelled : (h block off : ℕ) (b : Booting) (w : Want) → IsGood w → h < length b.core.harts → length (hart_of b.core h).x ≡ 32 → register (hart_of b.core h) 1 ≡ rom_base + block → block % 8 ≡ 0 → off % 8 ≡ 0 → off + 8 * length (want_values w) ≤ 2048 → StandAt (pool (want_values w)) (block + off) b.core.rom → AllSpelled h block (want_items off w) b
+want_spelled h block off b (Reg r v) good inside count at aligned even room there = (put_spelled _ _ _ block off r v (is_small v) (is_short v) refl refl good.0 good.1 good.2 at aligned even room there, tt)
+want_spelled h block off b (Control number v) good inside count at aligned even room there = control_spelled h block off b number v (nat_le v 31) refl good at aligned even room there
 
 control_inner : (off number v : ℕ) (d : Bool) → AllInner (control_spell d off number v)
 control_inner off number v true = (tt, tt)
@@ -121,16 +122,16 @@ control_leaves off number v hart false count = record {
   reservation = refl;
 }
 
-second_inner : (off : ℕ) (w : Want) → AllInner (second_spell off w)
-second_inner off (Reg r v) = (tt, tt)
-second_inner off (Control number v) = control_inner off number v (nat_le v 31)
+want_inner : (off : ℕ) (w : Want) → AllInner (want_items off w)
+want_inner off (Reg r v) = (tt, tt)
+want_inner off (Control number v) = control_inner off number v (nat_le v 31)
 
-second_leaves : (off : ℕ) (w : Want) (hart : Hart) → IsGood w → length hart.x ≡ 32 → Leaves w hart (hart_all (second_spell off w) hart)
-second_leaves off (Reg r v) hart good count =
+want_leaves : (off : ℕ) (w : Want) (hart : Hart) → IsGood w → length hart.x ≡ 32 → Leaves w hart (hart_all (want_items off w) hart)
+want_leaves off (Reg r v) hart good count =
     let next : ℕ = pc_after hart (4 * length (put_insns off r v)) in
     let is : with_write hart r v next ≡ record hart { x = slice_set hart.x r v; pc = next } = put_is hart r v next good.0 in
     record { csrs = ap (λ (x : Hart). x.csrs) is; x = ap (λ (x : Hart). x.x) is; reservation = ap (λ (x : Hart). x.reservation) is }
-second_leaves off (Control number v) hart good count = control_leaves off number v hart (nat_le v 31) count
+want_leaves off (Control number v) hart good count = control_leaves off number v hart (nat_le v 31) count
 
-pub second_layout : IsLayout second_spell second_values
-second_layout = record { spelled = second_spelled; inner = second_inner; leaves = second_leaves }
+pub want_layout : IsLayout want_items want_values
+want_layout = record { spelled = want_spelled; inner = want_inner; leaves = want_leaves }
