@@ -21,16 +21,16 @@ use Rattle.rom_gen.proofs.Restores.{places_length, restores, steps_of, address_a
 use Rattle.rom_gen.proofs.RomParts.{hart_length, hart_small, starts_length}
 use Rattle.hart_turns.specs.Boot.{booted}
 
-start_is : (ts : List Hart) (p i : ℕ) → i < length ts → slice_index (block_places p ts) i ≡ p + length (all_blocks (take i ts))
+start_is : (harts : List Hart) (p i : ℕ) → i < length harts → slice_index (block_places p harts) i ≡ p + length (all_blocks (take i harts))
 unfolding block_places all_blocks
 start_is [] p i within = absurd (omega arith)
-start_is (t ∷ ts) p zero within = omega arith
-start_is (t ∷ ts) p (suc i) within = omega (arith, start_is ts (p + hart_size t) i (omega arith), length-append (hart_bytes t) (all_blocks (take i ts)), hart_length t)
+start_is (board ∷ harts) p zero within = omega arith
+start_is (board ∷ harts) p (suc i) within = omega (arith, start_is harts (p + hart_size board) i (omega arith), length-append (hart_bytes board) (all_blocks (take i harts)), hart_length board)
 
-blocks_more : (ts : List Hart) (t : Hart) → all_blocks (ts ++ t ∷ []) ≡ all_blocks ts ++ hart_bytes t
+blocks_more : (harts : List Hart) (board : Hart) → all_blocks (harts ++ board ∷ []) ≡ all_blocks harts ++ hart_bytes board
 unfolding all_blocks
-blocks_more [] t = append-nil (hart_bytes t)
-blocks_more (x ∷ ts) t = ap (λ bs. hart_bytes x ++ bs) (blocks_more ts t) ∙ sym (append_assoc (hart_bytes x) (all_blocks ts) (hart_bytes t))
+blocks_more [] board = append-nil (hart_bytes board)
+blocks_more (x ∷ harts) board = ap (λ bs. hart_bytes x ++ bs) (blocks_more harts board) ∙ sym (append_assoc (hart_bytes x) (all_blocks harts) (hart_bytes board))
 
 pub table_more : (starts : List ℕ) (v : ℕ) → table (starts ++ v ∷ []) ≡ table starts ++ little_bytes 8 v
 unfolding table
@@ -50,27 +50,27 @@ all_entries starts out n below above is =
     let end : n ≡ length starts = omega arith in
     is ∙ ap (λ xs. code dispatch_insns ++ table xs) (ap (λ k. take k starts) end ∙ take-length starts)
 
-start_at : (t : BoardState) (ts : List Hart) (i v : ℕ) → i < length ts → v ≡ cond (i == 0) (65560 + 8 * length ts) (rom_base + first_place t ts + length (all_blocks (take i ts))) → v ≡ rom_base + slice_index (start_places t ts) i
-start_at t ts i v within is = is ∙ ⊎_elim
-    (λ e. ap (λ b. cond b (65560 + 8 * length ts) (rom_base + first_place t ts + length (all_blocks (take i ts)))) (eq-eqb i 0 e) ∙ omega arith ∙ ap (λ q. rom_base + q) (sym (ap (slice_index (start_places t ts)) e ∙ get_or-set_same (block_places (first_place t ts) ts) 0 (device_place ts) 0 (omega (arith, starts_length (first_place t ts) ts)))))
-    (λ n. ap (λ b. cond b (65560 + 8 * length ts) (rom_base + first_place t ts + length (all_blocks (take i ts)))) (ne_eqb i 0 n) ∙ add_assoc rom_base (first_place t ts) (length (all_blocks (take i ts))) ∙ ap (λ q. rom_base + q) (sym (get_or-set_other (block_places (first_place t ts) ts) 0 i (device_place ts) 0 n ∙ start_is ts (first_place t ts) i within)))
+start_at : (board : BoardState) (harts : List Hart) (i v : ℕ) → i < length harts → v ≡ cond (i == 0) (65560 + 8 * length harts) (rom_base + first_place board harts + length (all_blocks (take i harts))) → v ≡ rom_base + slice_index (start_places board harts) i
+start_at board harts i v within is = is ∙ ⊎_elim
+    (λ e. ap (λ b. cond b (65560 + 8 * length harts) (rom_base + first_place board harts + length (all_blocks (take i harts)))) (eq-eqb i 0 e) ∙ omega arith ∙ ap (λ q. rom_base + q) (sym (ap (slice_index (start_places board harts)) e ∙ get_or-set_same (block_places (first_place board harts) harts) 0 (device_place harts) 0 (omega (arith, starts_length (first_place board harts) harts)))))
+    (λ n. ap (λ b. cond b (65560 + 8 * length harts) (rom_base + first_place board harts + length (all_blocks (take i harts)))) (ne_eqb i 0 n) ∙ add_assoc rom_base (first_place board harts) (length (all_blocks (take i harts))) ∙ ap (λ q. rom_base + q) (sym (get_or-set_other (block_places (first_place board harts) harts) 0 i (device_place harts) 0 n ∙ start_is harts (first_place board harts) i within)))
     (cases_eq i 0)
 
 -- one start more
-pub start_added : (t : BoardState) (ts : List Hart) (i v n first before : ℕ) (old new : List ℕ) → i < length ts → n ≡ length ts → first ≡ rom_base + first_place t ts → before ≡ length (all_blocks (take i ts)) → v ≡ cond (i == 0) (65560 + 8 * n) (first + before) → old ≡ take i (addresses (start_places t ts)) → new ≡ old ++ v ∷ [] → new ≡ take (i + 1) (addresses (start_places t ts))
-start_added t ts i v n first before old new within n_is first_is before_is is old_is new_is =
-    let starts : List ℕ = addresses (start_places t ts) in
-    let given : v ≡ cond (i == 0) (65560 + 8 * length ts) (rom_base + first_place t ts + length (all_blocks (take i ts))) = is ∙ ap (λ k. cond (i == 0) (65560 + 8 * k) (first + before)) n_is ∙ ap (λ k. cond (i == 0) (65560 + 8 * length ts) (k + before)) first_is ∙ ap (λ k. cond (i == 0) (65560 + 8 * length ts) (rom_base + first_place t ts + k)) before_is in
-    let v_is : v ≡ slice_index starts i = start_at t ts i v within given ∙ sym (address_at (start_places t ts) i 0 (omega (arith, places_length t ts))) in
-    new_is ∙ ap (λ x. x ++ v ∷ []) old_is ∙ ap (λ x. take i starts ++ x ∷ []) v_is ∙ sym (take_more starts i 0 (omega (arith, addresses_length t ts)))
+pub start_added : (board : BoardState) (harts : List Hart) (i v n first before : ℕ) (old new : List ℕ) → i < length harts → n ≡ length harts → first ≡ rom_base + first_place board harts → before ≡ length (all_blocks (take i harts)) → v ≡ cond (i == 0) (65560 + 8 * n) (first + before) → old ≡ take i (addresses (start_places board harts)) → new ≡ old ++ v ∷ [] → new ≡ take (i + 1) (addresses (start_places board harts))
+start_added board harts i v n first before old new within n_is first_is before_is is old_is new_is =
+    let starts : List ℕ = addresses (start_places board harts) in
+    let given : v ≡ cond (i == 0) (65560 + 8 * length harts) (rom_base + first_place board harts + length (all_blocks (take i harts))) = is ∙ ap (λ k. cond (i == 0) (65560 + 8 * k) (first + before)) n_is ∙ ap (λ k. cond (i == 0) (65560 + 8 * length harts) (k + before)) first_is ∙ ap (λ k. cond (i == 0) (65560 + 8 * length harts) (rom_base + first_place board harts + k)) before_is in
+    let v_is : v ≡ slice_index starts i = start_at board harts i v within given ∙ sym (address_at (start_places board harts) i 0 (omega (arith, places_length board harts))) in
+    new_is ∙ ap (λ x. x ++ v ∷ []) old_is ∙ ap (λ x. take i starts ++ x ∷ []) v_is ∙ sym (take_more starts i 0 (omega (arith, addresses_length board harts)))
 
-pub blocks_go_on : (ts : List Hart) (i : ℕ) (t : Hart) (old block new : List ℕ) → i < length ts → t ≡ get_or ts i (reset_hart 0 0) → old ≡ all_blocks (take i ts) → block ≡ hart_bytes t → new ≡ old ++ block → new ≡ all_blocks (take (i + 1) ts)
-blocks_go_on ts i t old block new within t_is old_is block_is new_is =
-    new_is ∙ ap (λ x. x ++ block) old_is ∙ ap (λ x. all_blocks (take i ts) ++ x) (block_is ∙ ap hart_bytes t_is)
-    ∙ sym (ap all_blocks (take_more ts i (reset_hart 0 0) within) ∙ blocks_more (take i ts) (get_or ts i (reset_hart 0 0)))
+pub blocks_go_on : (harts : List Hart) (i : ℕ) (board : Hart) (old block new : List ℕ) → i < length harts → board ≡ get_or harts i (reset_hart 0 0) → old ≡ all_blocks (take i harts) → block ≡ hart_bytes board → new ≡ old ++ block → new ≡ all_blocks (take (i + 1) harts)
+blocks_go_on harts i board old block new within t_is old_is block_is new_is =
+    new_is ∙ ap (λ x. x ++ block) old_is ∙ ap (λ x. all_blocks (take i harts) ++ x) (block_is ∙ ap hart_bytes t_is)
+    ∙ sym (ap all_blocks (take_more harts i (reset_hart 0 0) within) ∙ blocks_more (take i harts) (get_or harts i (reset_hart 0 0)))
 
-pub blocks_grow : (i : ℕ) (t : Hart) (old block new : List ℕ) → block ≡ hart_bytes t → new ≡ old ++ block → length old ≤ 1112 * i → length new ≤ 1112 * (i + 1)
-blocks_grow i t old block new block_is new_is room = omega (arith, ap length new_is, length-append old block, ap length block_is, hart_length t, hart_small t)
+pub blocks_grow : (i : ℕ) (board : Hart) (old block new : List ℕ) → block ≡ hart_bytes board → new ≡ old ++ block → length old ≤ 1112 * i → length new ≤ 1112 * (i + 1)
+blocks_grow i board old block new block_is new_is room = omega (arith, ap length new_is, length-append old block, ap length block_is, hart_length board, hart_small board)
 
 pub dispatch_is : (a b c d e f g : List ℕ) → b ≡ a ++ little_bytes 4 0x00000097 → c ≡ b ++ little_bytes 4 0xf1402173 → d ≡ c ++ little_bytes 4 0x00311113 → e ≡ d ++ little_bytes 4 0x002080b3 → f ≡ e ++ little_bytes 4 0x0180b083 → g ≡ f ++ little_bytes 4 0x00008067 → g ≡ a ++ code dispatch_insns
 unfolding encoded word_r word_long
@@ -82,20 +82,20 @@ dispatch_is a b c d e f g e1 e2 e3 e4 e5 e6 =
     ∙ append_assoc (a ++ little_bytes 4 0x00000097) (little_bytes 4 0xf1402173) (little_bytes 4 0x00311113 ++ (little_bytes 4 0x002080b3 ++ (little_bytes 4 0x0180b083 ++ little_bytes 4 0x00008067)))
     ∙ append_assoc a (little_bytes 4 0x00000097) (little_bytes 4 0xf1402173 ++ (little_bytes 4 0x00311113 ++ (little_bytes 4 0x002080b3 ++ (little_bytes 4 0x0180b083 ++ little_bytes 4 0x00008067))))
 
-pub starts_count : (t : BoardState) (ts : List Hart) (starts : List ℕ) (n : ℕ) → n ≡ length ts → starts ≡ take n (addresses (start_places t ts)) → length starts ≡ length ts
-starts_count t ts starts n n_is is =
-    let all : List ℕ = addresses (start_places t ts) in
-    ap length (is ∙ ap (λ k. take k all) (n_is ∙ sym (addresses_length t ts)) ∙ take-length all) ∙ addresses_length t ts
+pub starts_count : (board : BoardState) (harts : List Hart) (starts : List ℕ) (n : ℕ) → n ≡ length harts → starts ≡ take n (addresses (start_places board harts)) → length starts ≡ length harts
+starts_count board harts starts n n_is is =
+    let all : List ℕ = addresses (start_places board harts) in
+    ap length (is ∙ ap (λ k. take k all) (n_is ∙ sym (addresses_length board harts)) ∙ take-length all) ∙ addresses_length board harts
 
-pub rom_assembled : (t : BoardState) (ts : List Hart) (first : ℕ) (starts dispatch device blocks b c : List ℕ) → first ≡ rom_base + first_place t ts → starts ≡ take (length ts) (addresses (start_places t ts)) → dispatch ≡ dispatch_bytes starts → device ≡ device_bytes t first → blocks ≡ all_blocks (take (length ts) ts) → b ≡ dispatch ++ device → c ≡ b ++ blocks → c ≡ rom_bytes t ts
-rom_assembled t ts first starts dispatch device blocks b c first_is starts_is dispatch_is device_is blocks_is b_is c_is =
-    let all : List ℕ = addresses (start_places t ts) in
-    let whole : take (length ts) all ≡ all = ap (λ n. take n all) (sym (addresses_length t ts)) ∙ take-length all in
+pub rom_assembled : (board : BoardState) (harts : List Hart) (first : ℕ) (starts dispatch device blocks b c : List ℕ) → first ≡ rom_base + first_place board harts → starts ≡ take (length harts) (addresses (start_places board harts)) → dispatch ≡ dispatch_bytes starts → device ≡ device_bytes board first → blocks ≡ all_blocks (take (length harts) harts) → b ≡ dispatch ++ device → c ≡ b ++ blocks → c ≡ rom_bytes board harts
+rom_assembled board harts first starts dispatch device blocks b c first_is starts_is dispatch_is device_is blocks_is b_is c_is =
+    let all : List ℕ = addresses (start_places board harts) in
+    let whole : take (length harts) all ≡ all = ap (λ n. take n all) (sym (addresses_length board harts)) ∙ take-length all in
     c_is ∙ ap (λ x. x ++ blocks) b_is
     ∙ append_assoc dispatch device blocks
     ∙ ap (λ x. x ++ (device ++ blocks)) (dispatch_is ∙ ap dispatch_bytes (starts_is ∙ whole))
-    ∙ ap (λ x. dispatch_bytes all ++ (x ++ blocks)) (device_is ∙ ap (device_bytes t) first_is)
-    ∙ ap (λ x. dispatch_bytes all ++ (device_bytes t (rom_base + first_place t ts) ++ x)) (blocks_is ∙ ap all_blocks (take-length ts))
+    ∙ ap (λ x. dispatch_bytes all ++ (x ++ blocks)) (device_is ∙ ap (device_bytes board) first_is)
+    ∙ ap (λ x. dispatch_bytes all ++ (device_bytes board (rom_base + first_place board harts) ++ x)) (blocks_is ∙ ap all_blocks (take-length harts))
 
 -- the ROM of a running machine restores it
 pub rom_restores : (m : MachineState) → IsFit m → is_running m ≡ true → (length (rom_bytes m.board m.core.harts) ≤ most_rom) × Restores m (rom_bytes m.board m.core.harts)

@@ -55,15 +55,15 @@ deed_values_append (d ∷ a) c = ap (λ x. deed_values d ++ x) (deed_values_appe
 pub dealt_none : (a : Writer) → Dealt a a []
 dealt_none a = record { code = sym (append-nil a.code.items); pool = sym (append-nil a.pool.items); place = refl }
 
-pub dealt_join : (a b c : Writer) (ds es : List Deed) → Dealt a b ds → Dealt b c es → Dealt a c (ds ++ es)
-dealt_join a b c ds es one two =
+pub dealt_join : (a b c : Writer) (ds enables : List Deed) → Dealt a b ds → Dealt b c enables → Dealt a c (ds ++ enables)
+dealt_join a b c ds enables one two =
     let next : ℕ = offset_of a + 8 * length (all_deed_values ds) in
     let items : List Spelling = placed_deeds (offset_of a) ds in
-    let second : Adds b c (all_insns (placed_deeds next es)) (all_deed_values es) = subst (λ k. Adds b c (all_insns (placed_deeds k es)) (all_deed_values es)) (offset_on a b (all_insns items) (all_deed_values ds) one) two in
-    subst (λ x. Adds a c (all_insns x) (all_deed_values (ds ++ es))) (sym (placed_deeds_append (offset_of a) ds es))
-    (subst (λ x. Adds a c x (all_deed_values (ds ++ es))) (sym (insns_append items (placed_deeds next es)))
-    (subst (λ x. Adds a c (all_insns items ++ all_insns (placed_deeds next es)) x) (sym (deed_values_append ds es))
-    (adds_join a b c (all_insns items) (all_insns (placed_deeds next es)) (all_deed_values ds) (all_deed_values es) one second)))
+    let second : Adds b c (all_insns (placed_deeds next enables)) (all_deed_values enables) = subst (λ k. Adds b c (all_insns (placed_deeds k enables)) (all_deed_values enables)) (offset_on a b (all_insns items) (all_deed_values ds) one) two in
+    subst (λ x. Adds a c (all_insns x) (all_deed_values (ds ++ enables))) (sym (placed_deeds_append (offset_of a) ds enables))
+    (subst (λ x. Adds a c x (all_deed_values (ds ++ enables))) (sym (insns_append items (placed_deeds next enables)))
+    (subst (λ x. Adds a c (all_insns items ++ all_insns (placed_deeds next enables)) x) (sym (deed_values_append ds enables))
+    (adds_join a b c (all_insns items) (all_insns (placed_deeds next enables)) (all_deed_values ds) (all_deed_values enables) one second)))
 
 -- a value that was saved, wherever the register stands
 pub dealt_one : (a b : Writer) (w : Width) (v by at : ℕ) (off : ℤ) → Adds a b (all_insns (deed_items (offset_of a) (Save w v by off 0))) (deed_values (Save w v by off 0)) → Dealt a b (Save w v by off at ∷ [])
@@ -73,35 +73,35 @@ dealt_one a b w v by at off adds =
 
 -- ---- the lists of the loops, apart from what comes behind them, and with one element more
 
-pub contexts_apart : (k c : ℕ) (es ts : List ℕ) (rest : List Deed) → context_deeds k c es ts rest ≡ context_deeds k c es ts [] ++ rest
+pub contexts_apart : (k c : ℕ) (enables thresholds : List ℕ) (rest : List Deed) → context_deeds k c enables thresholds rest ≡ context_deeds k c enables thresholds [] ++ rest
 unfolding context_deeds
-contexts_apart zero c es ts rest = refl
-contexts_apart (suc k) c es ts rest = ap (λ ds. Save Word (slice_index es c) 4 (pos (128 * c)) (0xc002000 + 128 * c) ∷ Aim 5 (0xc200000 + 4096 * c) ∷ Save Word (slice_index ts c) 5 (pos 0) (0xc200000 + 4096 * c) ∷ ds) (contexts_apart k (suc c) es ts rest)
+contexts_apart zero c enables thresholds rest = refl
+contexts_apart (suc k) c enables thresholds rest = ap (λ ds. Save Word (slice_index enables c) 4 (pos (128 * c)) (0xc002000 + 128 * c) ∷ Aim 5 (0xc200000 + 4096 * c) ∷ Save Word (slice_index thresholds c) 5 (pos 0) (0xc200000 + 4096 * c) ∷ ds) (contexts_apart k (suc c) enables thresholds rest)
 
 abbrev pub context_deed : ℕ → List ℕ → List ℕ → List Deed
-context_deed c es ts = Save Word (slice_index es c) 4 (pos (128 * c)) (0xc002000 + 128 * c) ∷ Aim 5 (0xc200000 + 4096 * c) ∷ Save Word (slice_index ts c) 5 (pos 0) (0xc200000 + 4096 * c) ∷ []
+context_deed c enables thresholds = Save Word (slice_index enables c) 4 (pos (128 * c)) (0xc002000 + 128 * c) ∷ Aim 5 (0xc200000 + 4096 * c) ∷ Save Word (slice_index thresholds c) 5 (pos 0) (0xc200000 + 4096 * c) ∷ []
 
-pub contexts_more : (k c : ℕ) (es ts : List ℕ) → context_deeds (suc k) c es ts [] ≡ context_deeds k c es ts [] ++ context_deed (c + k) es ts
+pub contexts_more : (k c : ℕ) (enables thresholds : List ℕ) → context_deeds (suc k) c enables thresholds [] ≡ context_deeds k c enables thresholds [] ++ context_deed (c + k) enables thresholds
 unfolding context_deeds
-contexts_more zero c es ts = ap (λ q. context_deed q es ts) (let e : c ≡ c + 0 = omega arith in e)
-contexts_more (suc k) c es ts =
+contexts_more zero c enables thresholds = ap (λ q. context_deed q enables thresholds) (let e : c ≡ c + 0 = omega arith in e)
+contexts_more (suc k) c enables thresholds =
     let e : suc c + k ≡ c + suc k = omega arith in
-    ap (λ ds. Save Word (slice_index es c) 4 (pos (128 * c)) (0xc002000 + 128 * c) ∷ Aim 5 (0xc200000 + 4096 * c) ∷ Save Word (slice_index ts c) 5 (pos 0) (0xc200000 + 4096 * c) ∷ ds) (contexts_more k (suc c) es ts ∙ ap (λ q. context_deeds k (suc c) es ts [] ++ context_deed q es ts) e)
+    ap (λ ds. Save Word (slice_index enables c) 4 (pos (128 * c)) (0xc002000 + 128 * c) ∷ Aim 5 (0xc200000 + 4096 * c) ∷ Save Word (slice_index thresholds c) 5 (pos 0) (0xc200000 + 4096 * c) ∷ ds) (contexts_more k (suc c) enables thresholds ∙ ap (λ q. context_deeds k (suc c) enables thresholds [] ++ context_deed q enables thresholds) e)
 
-pub context_dealt : (start now one two next : Writer) (es ts : List ℕ) (c q e t : ℕ) → q ≡ c → e ≡ slice_index es c → t ≡ slice_index ts c → Dealt start now (context_deeds c 0 es ts []) →
-    Adds now one (all_insns (deed_items (offset_of now) (Save Word e 4 (pos (128 * q)) 0))) (deed_values (Save Word e 4 (pos (128 * q)) 0)) → Dealt one two (Aim 5 (0xc200000 + 4096 * q) ∷ []) → Adds two next (all_insns (deed_items (offset_of two) (Save Word t 5 (pos 0) 0))) (deed_values (Save Word t 5 (pos 0) 0)) →
-    Dealt start next (context_deeds (c + 1) 0 es ts [])
-context_dealt start now one two next es ts c q e t q_is e_is t_is dealt first aim second =
-    let d1 : Deed = Save Word (slice_index es c) 4 (pos (128 * c)) (0xc002000 + 128 * c) in
+pub context_dealt : (start now one two next : Writer) (enables thresholds : List ℕ) (c q e target : ℕ) → q ≡ c → e ≡ slice_index enables c → target ≡ slice_index thresholds c → Dealt start now (context_deeds c 0 enables thresholds []) →
+    Adds now one (all_insns (deed_items (offset_of now) (Save Word e 4 (pos (128 * q)) 0))) (deed_values (Save Word e 4 (pos (128 * q)) 0)) → Dealt one two (Aim 5 (0xc200000 + 4096 * q) ∷ []) → Adds two next (all_insns (deed_items (offset_of two) (Save Word target 5 (pos 0) 0))) (deed_values (Save Word target 5 (pos 0) 0)) →
+    Dealt start next (context_deeds (c + 1) 0 enables thresholds [])
+context_dealt start now one two next enables thresholds c q e target q_is e_is t_is dealt first aim second =
+    let d1 : Deed = Save Word (slice_index enables c) 4 (pos (128 * c)) (0xc002000 + 128 * c) in
     let d2 : Deed = Aim 5 (0xc200000 + 4096 * c) in
-    let d3 : Deed = Save Word (slice_index ts c) 5 (pos 0) (0xc200000 + 4096 * c) in
+    let d3 : Deed = Save Word (slice_index thresholds c) 5 (pos 0) (0xc200000 + 4096 * c) in
     let on : suc c ≡ c + 1 = omega arith in
     let at : 0 + c ≡ c = omega arith in
     let one_is : Dealt now one (d1 ∷ []) = subst (λ z. Dealt now one (Save Word z 4 (pos (128 * c)) (0xc002000 + 128 * c) ∷ [])) e_is (subst (λ z. Dealt now one (Save Word e 4 (pos (128 * z)) (0xc002000 + 128 * c) ∷ [])) q_is (dealt_one now one Word e 4 (0xc002000 + 128 * c) (pos (128 * q)) first)) in
     let two_is : Dealt one two (d2 ∷ []) = subst (λ z. Dealt one two (Aim 5 (0xc200000 + 4096 * z) ∷ [])) q_is aim in
-    let three_is : Dealt two next (d3 ∷ []) = subst (λ z. Dealt two next (Save Word z 5 (pos 0) (0xc200000 + 4096 * c) ∷ [])) t_is (dealt_one two next Word t 5 (0xc200000 + 4096 * c) (pos 0) second) in
-    subst (λ ds. Dealt start next ds) (sym (contexts_more c 0 es ts ∙ ap (λ z. context_deeds c 0 es ts [] ++ context_deed z es ts) at) ∙ ap (λ k. context_deeds k 0 es ts []) on)
-    (dealt_join start now next (context_deeds c 0 es ts []) (d1 ∷ d2 ∷ d3 ∷ []) dealt (dealt_join now one next (d1 ∷ []) (d2 ∷ d3 ∷ []) one_is (dealt_join one two next (d2 ∷ []) (d3 ∷ []) two_is three_is)))
+    let three_is : Dealt two next (d3 ∷ []) = subst (λ z. Dealt two next (Save Word z 5 (pos 0) (0xc200000 + 4096 * c) ∷ [])) t_is (dealt_one two next Word target 5 (0xc200000 + 4096 * c) (pos 0) second) in
+    subst (λ ds. Dealt start next ds) (sym (contexts_more c 0 enables thresholds ∙ ap (λ z. context_deeds c 0 enables thresholds [] ++ context_deed z enables thresholds) at) ∙ ap (λ k. context_deeds k 0 enables thresholds []) on)
+    (dealt_join start now next (context_deeds c 0 enables thresholds []) (d1 ∷ d2 ∷ d3 ∷ []) dealt (dealt_join now one next (d1 ∷ []) (d2 ∷ d3 ∷ []) one_is (dealt_join one two next (d2 ∷ []) (d3 ∷ []) two_is three_is)))
 
 pub aim_room : (a b : Writer) (r v : ℕ) → Dealt a b (Aim r v ∷ []) → offset_of b ≡ offset_of a
 aim_room a b r v dealt = offset_on a b (all_insns (placed_deeds (offset_of a) (Aim r v ∷ []))) [] dealt ∙ omega arith
@@ -178,45 +178,45 @@ pub marks_dealt : (w0 w1 w2 w3 w4 w5 w6 w7 w8 w9 w10 w11 w12 : Writer) (m : ℕ)
 marks_dealt w0 w1 w2 w3 w4 w5 w6 w7 w8 w9 w10 w11 w12 m p1 p2 p3 p4 p5 p6 p7 p8 p9 p10 p11 p12 =
     (dealt_join w0 w1 w12 (Aim 2 0x10000000 ∷ []) (Aim 3 0xc000000 ∷ Aim 4 0xc002000 ∷ Aim 5 0xc200000 ∷ Save Word 1 3 (pos 4) 0xc000004 ∷ Again Word 1 3 (pos 8) 0xc000008 ∷ Save Word m 4 (pos 0) 0xc002000 ∷ Save Word 7 2 (pos 8) 0x10000008 ∷ Save Byte 0 2 (pos 0) 0x10000000 ∷ Read Word 5 (pos 4) 0xc200004 ∷ Read Word 5 (pos 4) 0xc200004 ∷ Read Byte 2 (pos 0) 0x10000000 ∷ []) p1 (dealt_join w1 w2 w12 (Aim 3 0xc000000 ∷ []) (Aim 4 0xc002000 ∷ Aim 5 0xc200000 ∷ Save Word 1 3 (pos 4) 0xc000004 ∷ Again Word 1 3 (pos 8) 0xc000008 ∷ Save Word m 4 (pos 0) 0xc002000 ∷ Save Word 7 2 (pos 8) 0x10000008 ∷ Save Byte 0 2 (pos 0) 0x10000000 ∷ Read Word 5 (pos 4) 0xc200004 ∷ Read Word 5 (pos 4) 0xc200004 ∷ Read Byte 2 (pos 0) 0x10000000 ∷ []) p2 (dealt_join w2 w3 w12 (Aim 4 0xc002000 ∷ []) (Aim 5 0xc200000 ∷ Save Word 1 3 (pos 4) 0xc000004 ∷ Again Word 1 3 (pos 8) 0xc000008 ∷ Save Word m 4 (pos 0) 0xc002000 ∷ Save Word 7 2 (pos 8) 0x10000008 ∷ Save Byte 0 2 (pos 0) 0x10000000 ∷ Read Word 5 (pos 4) 0xc200004 ∷ Read Word 5 (pos 4) 0xc200004 ∷ Read Byte 2 (pos 0) 0x10000000 ∷ []) p3 (dealt_join w3 w4 w12 (Aim 5 0xc200000 ∷ []) (Save Word 1 3 (pos 4) 0xc000004 ∷ Again Word 1 3 (pos 8) 0xc000008 ∷ Save Word m 4 (pos 0) 0xc002000 ∷ Save Word 7 2 (pos 8) 0x10000008 ∷ Save Byte 0 2 (pos 0) 0x10000000 ∷ Read Word 5 (pos 4) 0xc200004 ∷ Read Word 5 (pos 4) 0xc200004 ∷ Read Byte 2 (pos 0) 0x10000000 ∷ []) p4 (dealt_join w4 w5 w12 (Save Word 1 3 (pos 4) 0xc000004 ∷ []) (Again Word 1 3 (pos 8) 0xc000008 ∷ Save Word m 4 (pos 0) 0xc002000 ∷ Save Word 7 2 (pos 8) 0x10000008 ∷ Save Byte 0 2 (pos 0) 0x10000000 ∷ Read Word 5 (pos 4) 0xc200004 ∷ Read Word 5 (pos 4) 0xc200004 ∷ Read Byte 2 (pos 0) 0x10000000 ∷ []) (dealt_one w4 w5 Word 1 3 0xc000004 (pos 4) p5) (dealt_join w5 w6 w12 (Again Word 1 3 (pos 8) 0xc000008 ∷ []) (Save Word m 4 (pos 0) 0xc002000 ∷ Save Word 7 2 (pos 8) 0x10000008 ∷ Save Byte 0 2 (pos 0) 0x10000000 ∷ Read Word 5 (pos 4) 0xc200004 ∷ Read Word 5 (pos 4) 0xc200004 ∷ Read Byte 2 (pos 0) 0x10000000 ∷ []) p6 (dealt_join w6 w7 w12 (Save Word m 4 (pos 0) 0xc002000 ∷ []) (Save Word 7 2 (pos 8) 0x10000008 ∷ Save Byte 0 2 (pos 0) 0x10000000 ∷ Read Word 5 (pos 4) 0xc200004 ∷ Read Word 5 (pos 4) 0xc200004 ∷ Read Byte 2 (pos 0) 0x10000000 ∷ []) (dealt_one w6 w7 Word m 4 0xc002000 (pos 0) p7) (dealt_join w7 w8 w12 (Save Word 7 2 (pos 8) 0x10000008 ∷ []) (Save Byte 0 2 (pos 0) 0x10000000 ∷ Read Word 5 (pos 4) 0xc200004 ∷ Read Word 5 (pos 4) 0xc200004 ∷ Read Byte 2 (pos 0) 0x10000000 ∷ []) (dealt_one w7 w8 Word 7 2 0x10000008 (pos 8) p8) (dealt_join w8 w9 w12 (Save Byte 0 2 (pos 0) 0x10000000 ∷ []) (Read Word 5 (pos 4) 0xc200004 ∷ Read Word 5 (pos 4) 0xc200004 ∷ Read Byte 2 (pos 0) 0x10000000 ∷ []) (dealt_one w8 w9 Byte 0 2 0x10000000 (pos 0) p9) (dealt_join w9 w10 w12 (Read Word 5 (pos 4) 0xc200004 ∷ []) (Read Word 5 (pos 4) 0xc200004 ∷ Read Byte 2 (pos 0) 0x10000000 ∷ []) p10 (dealt_join w10 w11 w12 (Read Word 5 (pos 4) 0xc200004 ∷ []) (Read Byte 2 (pos 0) 0x10000000 ∷ []) p11 p12)))))))))))
 
-apart : (t : BoardState) → device_deeds t ≡ marks_deeds t.plic.served [] ++ (queue_deeds t.console.queue [] ++ (Save Word (slice_index t.plic.priority 0) 3 (pos 4) 0xc000004 ∷ Save Word (slice_index t.plic.priority 1) 3 (pos 8) 0xc000008 ∷ (context_deeds (contexts_of t.plic) 0 t.plic.enable t.plic.threshold [] ++ (Save Word t.console.ctrl 2 (pos 8) 0x10000008 ∷ Save Double t.console.txaddr 2 (pos 16) 0x10000010 ∷ Aim 5 0x2000000 ∷ (soft_deeds (hart_count t.clint) 0 t.clint.msip [] ++ (Aim 7 0x2004000 ∷ (compare_deeds (hart_count t.clint) 0 t.clint.mtimecmp [] ++ (Aim 5 0x200c000 ∷ Save Double t.clint.mtime 5 (negsuc 7) 0x200bff8 ∷ []))))))))
-apart t =
-    let n : ℕ = hart_count t.clint in
-    let k : ℕ = contexts_of t.plic in
-    let last : List Deed = Aim 5 0x200c000 ∷ Save Double t.clint.mtime 5 (negsuc 7) 0x200bff8 ∷ [] in
-    let cmp : List Deed = Aim 7 0x2004000 ∷ compare_deeds n 0 t.clint.mtimecmp last in
-    let snd : List Deed = Save Word t.console.ctrl 2 (pos 8) 0x10000008 ∷ Save Double t.console.txaddr 2 (pos 16) 0x10000010 ∷ timer_deeds t in
-    let pri : List Deed = Save Word (slice_index t.plic.priority 0) 3 (pos 4) 0xc000004 ∷ Save Word (slice_index t.plic.priority 1) 3 (pos 8) 0xc000008 ∷ context_deeds k 0 t.plic.enable t.plic.threshold snd in
-    ap (λ x. marks_deeds t.plic.served x) (queue_apart t.console.queue pri
-    ∙ ap (λ x. queue_deeds t.console.queue [] ++ (Save Word (slice_index t.plic.priority 0) 3 (pos 4) 0xc000004 ∷ Save Word (slice_index t.plic.priority 1) 3 (pos 8) 0xc000008 ∷ x)) (contexts_apart k 0 t.plic.enable t.plic.threshold snd
-    ∙ ap (λ x. context_deeds k 0 t.plic.enable t.plic.threshold [] ++ (Save Word t.console.ctrl 2 (pos 8) 0x10000008 ∷ Save Double t.console.txaddr 2 (pos 16) 0x10000010 ∷ Aim 5 0x2000000 ∷ x)) (soft_apart n 0 t.clint.msip cmp
-    ∙ ap (λ x. soft_deeds n 0 t.clint.msip [] ++ (Aim 7 0x2004000 ∷ x)) (compare_apart n 0 t.clint.mtimecmp last))))
+apart : (target : BoardState) → device_deeds target ≡ marks_deeds target.plic.served [] ++ (queue_deeds target.console.queue [] ++ (Save Word (slice_index target.plic.priority 0) 3 (pos 4) 0xc000004 ∷ Save Word (slice_index target.plic.priority 1) 3 (pos 8) 0xc000008 ∷ (context_deeds (contexts_of target.plic) 0 target.plic.enable target.plic.threshold [] ++ (Save Word target.console.ctrl 2 (pos 8) 0x10000008 ∷ Save Double target.console.txaddr 2 (pos 16) 0x10000010 ∷ Aim 5 0x2000000 ∷ (soft_deeds (hart_count target.clint) 0 target.clint.msip [] ++ (Aim 7 0x2004000 ∷ (compare_deeds (hart_count target.clint) 0 target.clint.mtimecmp [] ++ (Aim 5 0x200c000 ∷ Save Double target.clint.mtime 5 (negsuc 7) 0x200bff8 ∷ []))))))))
+apart target =
+    let n : ℕ = hart_count target.clint in
+    let k : ℕ = contexts_of target.plic in
+    let last : List Deed = Aim 5 0x200c000 ∷ Save Double target.clint.mtime 5 (negsuc 7) 0x200bff8 ∷ [] in
+    let cmp : List Deed = Aim 7 0x2004000 ∷ compare_deeds n 0 target.clint.mtimecmp last in
+    let snd : List Deed = Save Word target.console.ctrl 2 (pos 8) 0x10000008 ∷ Save Double target.console.txaddr 2 (pos 16) 0x10000010 ∷ timer_deeds target in
+    let pri : List Deed = Save Word (slice_index target.plic.priority 0) 3 (pos 4) 0xc000004 ∷ Save Word (slice_index target.plic.priority 1) 3 (pos 8) 0xc000008 ∷ context_deeds k 0 target.plic.enable target.plic.threshold snd in
+    ap (λ x. marks_deeds target.plic.served x) (queue_apart target.console.queue pri
+    ∙ ap (λ x. queue_deeds target.console.queue [] ++ (Save Word (slice_index target.plic.priority 0) 3 (pos 4) 0xc000004 ∷ Save Word (slice_index target.plic.priority 1) 3 (pos 8) 0xc000008 ∷ x)) (contexts_apart k 0 target.plic.enable target.plic.threshold snd
+    ∙ ap (λ x. context_deeds k 0 target.plic.enable target.plic.threshold [] ++ (Save Word target.console.ctrl 2 (pos 8) 0x10000008 ∷ Save Double target.console.txaddr 2 (pos 16) 0x10000010 ∷ Aim 5 0x2000000 ∷ x)) (soft_apart n 0 target.clint.msip cmp
+    ∙ ap (λ x. soft_deeds n 0 target.clint.msip [] ++ (Aim 7 0x2004000 ∷ x)) (compare_apart n 0 target.clint.mtimecmp last))))
 
 -- what a call saved, for the value that it stands for
 pub saved_as : (a b : Writer) (w : Width) (v x by at : ℕ) (off : ℤ) → v ≡ x → Adds a b (all_insns (deed_items (offset_of a) (Save w v by off 0))) (deed_values (Save w v by off 0)) → Dealt a b (Save w x by off at ∷ [])
 saved_as a b w v x by at off is adds = subst (λ z. Dealt a b (Save w z by off at ∷ [])) is (dealt_one a b w v by at off adds)
 
-pub devices_dealt : (t : BoardState) (v0 v1 v2 v3 v4 v5 v6 v7 v8 v9 v10 v11 v12 v13 : Writer) → Dealt v0 v1 (marks_deeds t.plic.served []) → Dealt v1 v2 (queue_deeds t.console.queue []) → Dealt v2 v3 (Save Word (slice_index t.plic.priority 0) 3 (pos 4) 0xc000004 ∷ []) → Dealt v3 v4 (Save Word (slice_index t.plic.priority 1) 3 (pos 8) 0xc000008 ∷ []) → Dealt v4 v5 (context_deeds (contexts_of t.plic) 0 t.plic.enable t.plic.threshold []) → Dealt v5 v6 (Save Word t.console.ctrl 2 (pos 8) 0x10000008 ∷ []) → Dealt v6 v7 (Save Double t.console.txaddr 2 (pos 16) 0x10000010 ∷ []) → Dealt v7 v8 (Aim 5 0x2000000 ∷ []) → Dealt v8 v9 (soft_deeds (hart_count t.clint) 0 t.clint.msip []) → Dealt v9 v10 (Aim 7 0x2004000 ∷ []) → Dealt v10 v11 (compare_deeds (hart_count t.clint) 0 t.clint.mtimecmp []) → Dealt v11 v12 (Aim 5 0x200c000 ∷ []) → Dealt v12 v13 (Save Double t.clint.mtime 5 (negsuc 7) 0x200bff8 ∷ []) → Dealt v0 v13 (device_deeds t)
-devices_dealt t v0 v1 v2 v3 v4 v5 v6 v7 v8 v9 v10 v11 v12 v13 p1 p2 p3 p4 p5 p6 p7 p8 p9 p10 p11 p12 p13 =
-    let n : ℕ = hart_count t.clint in
-    let d3 : Deed = Save Word (slice_index t.plic.priority 0) 3 (pos 4) 0xc000004 in
-    let d4 : Deed = Save Word (slice_index t.plic.priority 1) 3 (pos 8) 0xc000008 in
-    let d6 : Deed = Save Word t.console.ctrl 2 (pos 8) 0x10000008 in
-    let d7 : Deed = Save Double t.console.txaddr 2 (pos 16) 0x10000010 in
-    let d13 : Deed = Save Double t.clint.mtime 5 (negsuc 7) 0x200bff8 in
+pub devices_dealt : (target : BoardState) (v0 v1 v2 v3 v4 v5 v6 v7 v8 v9 v10 v11 v12 v13 : Writer) → Dealt v0 v1 (marks_deeds target.plic.served []) → Dealt v1 v2 (queue_deeds target.console.queue []) → Dealt v2 v3 (Save Word (slice_index target.plic.priority 0) 3 (pos 4) 0xc000004 ∷ []) → Dealt v3 v4 (Save Word (slice_index target.plic.priority 1) 3 (pos 8) 0xc000008 ∷ []) → Dealt v4 v5 (context_deeds (contexts_of target.plic) 0 target.plic.enable target.plic.threshold []) → Dealt v5 v6 (Save Word target.console.ctrl 2 (pos 8) 0x10000008 ∷ []) → Dealt v6 v7 (Save Double target.console.txaddr 2 (pos 16) 0x10000010 ∷ []) → Dealt v7 v8 (Aim 5 0x2000000 ∷ []) → Dealt v8 v9 (soft_deeds (hart_count target.clint) 0 target.clint.msip []) → Dealt v9 v10 (Aim 7 0x2004000 ∷ []) → Dealt v10 v11 (compare_deeds (hart_count target.clint) 0 target.clint.mtimecmp []) → Dealt v11 v12 (Aim 5 0x200c000 ∷ []) → Dealt v12 v13 (Save Double target.clint.mtime 5 (negsuc 7) 0x200bff8 ∷ []) → Dealt v0 v13 (device_deeds target)
+devices_dealt target v0 v1 v2 v3 v4 v5 v6 v7 v8 v9 v10 v11 v12 v13 p1 p2 p3 p4 p5 p6 p7 p8 p9 p10 p11 p12 p13 =
+    let n : ℕ = hart_count target.clint in
+    let d3 : Deed = Save Word (slice_index target.plic.priority 0) 3 (pos 4) 0xc000004 in
+    let d4 : Deed = Save Word (slice_index target.plic.priority 1) 3 (pos 8) 0xc000008 in
+    let d6 : Deed = Save Word target.console.ctrl 2 (pos 8) 0x10000008 in
+    let d7 : Deed = Save Double target.console.txaddr 2 (pos 16) 0x10000010 in
+    let d13 : Deed = Save Double target.clint.mtime 5 (negsuc 7) 0x200bff8 in
     let e12 : List Deed = Aim 5 0x200c000 ∷ d13 ∷ [] in
-    let cmp : List Deed = compare_deeds n 0 t.clint.mtimecmp [] in
+    let cmp : List Deed = compare_deeds n 0 target.clint.mtimecmp [] in
     let e11 : List Deed = cmp ++ e12 in
     let e10 : List Deed = Aim 7 0x2004000 ∷ e11 in
-    let sft : List Deed = soft_deeds n 0 t.clint.msip [] in
+    let sft : List Deed = soft_deeds n 0 target.clint.msip [] in
     let e9 : List Deed = sft ++ e10 in
     let e8 : List Deed = Aim 5 0x2000000 ∷ e9 in
     let e7 : List Deed = d7 ∷ e8 in
     let e6 : List Deed = d6 ∷ e7 in
-    let ctx : List Deed = context_deeds (contexts_of t.plic) 0 t.plic.enable t.plic.threshold [] in
+    let ctx : List Deed = context_deeds (contexts_of target.plic) 0 target.plic.enable target.plic.threshold [] in
     let e5 : List Deed = ctx ++ e6 in
     let e4 : List Deed = d4 ∷ e5 in
     let e3 : List Deed = d3 ∷ e4 in
-    let que : List Deed = queue_deeds t.console.queue [] in
+    let que : List Deed = queue_deeds target.console.queue [] in
     let e2 : List Deed = que ++ e3 in
     let q12 : Dealt v11 v13 e12 = dealt_join v11 v12 v13 (Aim 5 0x200c000 ∷ []) (d13 ∷ []) p12 p13 in
     let q11 : Dealt v10 v13 e11 = dealt_join v10 v11 v13 cmp e12 p11 q12 in
@@ -229,24 +229,24 @@ devices_dealt t v0 v1 v2 v3 v4 v5 v6 v7 v8 v9 v10 v11 v12 v13 p1 p2 p3 p4 p5 p6 
     let q4 : Dealt v3 v13 e4 = dealt_join v3 v4 v13 (d4 ∷ []) e5 p4 q5 in
     let q3 : Dealt v2 v13 e3 = dealt_join v2 v3 v13 (d3 ∷ []) e4 p3 q4 in
     let q2 : Dealt v1 v13 e2 = dealt_join v1 v2 v13 que e3 p2 q3 in
-    subst (λ ds. Dealt v0 v13 ds) (sym (apart t)) (dealt_join v0 v1 v13 (marks_deeds t.plic.served []) e2 p1 q2)
+    subst (λ ds. Dealt v0 v13 ds) (sym (apart target)) (dealt_join v0 v1 v13 (marks_deeds target.plic.served []) e2 p1 q2)
 
 -- ---- the block's end
 
 pub far_adds : (a b d : Writer) (v n m : ℕ) → n ≡ encoded (Insn.Lui 1 (high_part v)) → m ≡ encoded (Insn.Addiw 1 1 (low_part v)) → b.code.items ≡ a.code.items ++ little_bytes 4 n → b.pool.items ≡ a.pool.items → b.place ≡ a.place → d.code.items ≡ b.code.items ++ little_bytes 4 m → d.pool.items ≡ b.pool.items → d.place ≡ b.place → Adds a d (far_insns v) []
 far_adds a b d v n m n_is m_is c1 p1 l1 c2 p2 l2 = adds_join a b d (Insn.Lui 1 (high_part v) ∷ []) (Insn.Addiw 1 1 (low_part v) ∷ []) [] [] (one_adds a b (Insn.Lui 1 (high_part v)) n n_is c1 p1 l1) (one_adds b d (Insn.Addiw 1 1 (low_part v)) m m_is c2 p2 l2)
 
-pub device_adds : (t : BoardState) (next : ℕ) (a b d : Writer) → Dealt a b (device_deeds t) → Adds b d (far_insns next) [] → Adds a d (all_insns (device_items (offset_of a) t next)) (device_values t)
-device_adds t next a b d dealt far =
-    let items : List Spelling = placed_deeds (offset_of a) (device_deeds t) in
+pub device_adds : (target : BoardState) (next : ℕ) (a b d : Writer) → Dealt a b (device_deeds target) → Adds b d (far_insns next) [] → Adds a d (all_insns (device_items (offset_of a) target next)) (device_values target)
+device_adds target next a b d dealt far =
+    let items : List Spelling = placed_deeds (offset_of a) (device_deeds target) in
     let last : List Spelling = record { item = Put 1 next; insns = far_insns next } ∷ [] in
-    subst (λ x. Adds a d x (device_values t)) (sym (insns_append items last))
-    (subst (λ x. Adds a d (all_insns items ++ all_insns last) x) (append-nil (device_values t))
-    (adds_join a b d (all_insns items) (all_insns last) (all_deed_values (device_deeds t)) [] dealt (subst (λ x. Adds b d x []) (sym (append-nil (far_insns next))) far)))
+    subst (λ x. Adds a d x (device_values target)) (sym (insns_append items last))
+    (subst (λ x. Adds a d (all_insns items ++ all_insns last) x) (append-nil (device_values target))
+    (adds_join a b d (all_insns items) (all_insns last) (all_deed_values (device_deeds target)) [] dealt (subst (λ x. Adds b d x []) (sym (append-nil (far_insns next))) far)))
 
-pub device_drafted : (t : BoardState) (next : ℕ) (a b : Writer) → IsFit t → a.code.items ≡ [] → Adds a b (all_insns (device_items (offset_of a) t next)) (device_values t) → length b.code.items ≤ 1208
-device_drafted t next a b fit none adds = omega (arith, drafted (λ k. device_items k t next) (device_values t) a b (device_fixed t next) none adds, device_words t next fit)
+pub device_drafted : (target : BoardState) (next : ℕ) (a b : Writer) → IsFit target → a.code.items ≡ [] → Adds a b (all_insns (device_items (offset_of a) target next)) (device_values target) → length b.code.items ≤ 1208
+device_drafted target next a b fit none adds = omega (arith, drafted (λ k. device_items k target next) (device_values target) a b (device_fixed target next) none adds, device_words target next fit)
 
-pub device_bytes_written : (t : BoardState) (next : ℕ) (a b : Writer) (n : ℕ) → a.code.items ≡ [] → a.pool.items ≡ [] → a.place ≡ pool_place (λ k. device_items k t next) → n ≡ encoded (Insn.Jalr 0 1 (pos 0)) → Adds a b (all_insns (device_items (offset_of a) t next)) (device_values t) → (b.code.items ++ little_bytes 4 n) ++ (code (padding (length b.code.items / 4 + 1)) ++ b.pool.items) ≡ device_bytes t next
+pub device_bytes_written : (target : BoardState) (next : ℕ) (a b : Writer) (n : ℕ) → a.code.items ≡ [] → a.pool.items ≡ [] → a.place ≡ pool_place (λ k. device_items k target next) → n ≡ encoded (Insn.Jalr 0 1 (pos 0)) → Adds a b (all_insns (device_items (offset_of a) target next)) (device_values target) → (b.code.items ++ little_bytes 4 n) ++ (code (padding (length b.code.items / 4 + 1)) ++ b.pool.items) ≡ device_bytes target next
 unfolding device_bytes
-device_bytes_written t next a b n no_code no_pool place is adds = block_written (λ k. device_items k t next) (Insn.Jalr 0 1 (pos 0)) (device_values t) a b n (device_fixed t next) no_code no_pool place is adds
+device_bytes_written target next a b n no_code no_pool place is adds = block_written (λ k. device_items k target next) (Insn.Jalr 0 1 (pos 0)) (device_values target) a b n (device_fixed target next) no_code no_pool place is adds

@@ -95,38 +95,38 @@ within_small e fits = four (λ m. m < 8) e fits (omega arith) (omega arith) (ome
 enable_twice : (e : ℕ) → IsWithinSources e → bit_and (low_bytes 4 (low_bytes 4 e)) source_bits ≡ e
 enable_twice e fits = four (λ m. bit_and (low_bytes 4 (low_bytes 4 m)) source_bits ≡ m) e fits refl refl refl refl
 
-context_runs : (k c : ℕ) (es ts : List ℕ) (rest : List Deed) (n : ℕ) (ram : List ℕ) (five seven : ℕ) (known : Known) (b b' : BoardState) → Points five seven known → c + k ≤ 2 * n → n ≤ 8 → context_count b.plic ≡ 2 * n → ((i : ℕ) → i < 2 * n → IsWithinSources (slice_index es i)) → ((i : ℕ) → i < 2 * n → slice_index ts i ≤ 7) →
-    ((five' : ℕ) (known' : Known) → Points five' seven known' → Runs n ram known' (record b { plic = record b.plic { enable = put_x k c es b.plic.enable; threshold = put_x k c ts b.plic.threshold } }) rest b') → Runs n ram known b (context_deeds k c es ts rest) b'
+context_runs : (k c : ℕ) (enables thresholds : List ℕ) (rest : List Deed) (n : ℕ) (ram : List ℕ) (five seven : ℕ) (known : Known) (b b' : BoardState) → Points five seven known → c + k ≤ 2 * n → n ≤ 8 → context_count b.plic ≡ 2 * n → ((i : ℕ) → i < 2 * n → IsWithinSources (slice_index enables i)) → ((i : ℕ) → i < 2 * n → slice_index thresholds i ≤ 7) →
+    ((five' : ℕ) (known' : Known) → Points five' seven known' → Runs n ram known' (record b { plic = record b.plic { enable = put_x k c enables b.plic.enable; threshold = put_x k c thresholds b.plic.threshold } }) rest b') → Runs n ram known b (context_deeds k c enables thresholds rest) b'
 unfolding context_deeds put_x
-context_runs zero c es ts rest n ram five seven known b b' points within most count enables thresholds then_rest = then_rest five known points
-context_runs (suc k) c es ts rest n ram five seven known b b' points within most count enables thresholds then_rest =
-    let e : ℕ = slice_index es c in
-    let t : ℕ = slice_index ts c in
-    let e_fits : IsWithinSources e = enables c (omega arith) in
+context_runs zero c enables thresholds rest n ram five seven known b b' points within most count enables_fit thresholds_fit then_rest = then_rest five known points
+context_runs (suc k) c enables thresholds rest n ram five seven known b b' points within most count enables_fit thresholds_fit then_rest =
+    let e : ℕ = slice_index enables c in
+    let threshold : ℕ = slice_index thresholds c in
+    let e_fits : IsWithinSources e = enables_fit c (omega arith) in
     let e_small : e < 8 = within_small e e_fits in
-    let t_small : t ≤ 7 = thresholds c (omega arith) in
+    let t_small : threshold ≤ 7 = thresholds_fit c (omega arith) in
     let b1 : BoardState = record b { plic = record b.plic { enable = slice_set b.plic.enable c e } } in
-    let b2 : BoardState = record b { plic = record b.plic { enable = slice_set b.plic.enable c e; threshold = slice_set b.plic.threshold c t } } in
+    let b2 : BoardState = record b { plic = record b.plic { enable = slice_set b.plic.enable c e; threshold = slice_set b.plic.threshold c threshold } } in
     let count1 : context_count b1.plic ≡ 2 * n = length-set b.plic.enable c e ∙ count in
-    let t_kept : low_bytes 4 (low_bytes 4 t) % 8 ≡ t = omega arith in
+    let t_kept : low_bytes 4 (low_bytes 4 threshold) % 8 ≡ threshold = omega arith in
     let is1 : stored b (0xc002000 + 128 * c) 4 (low_bytes 4 e) ≡ b1 = enable_stored b c (low_bytes 4 e) (omega arith) (omega arith) ∙ ap (λ w. record b { plic = record b.plic { enable = slice_set b.plic.enable c w } }) (enable_twice e e_fits) in
-    let is2 : stored b1 (0xc200000 + 4096 * c) 4 (low_bytes 4 t) ≡ b2 = threshold_stored b1 c (low_bytes 4 t) (omega arith) (omega arith) ∙ ap (λ w. record b1 { plic = record b1.plic { threshold = slice_set b.plic.threshold c w } }) t_kept in
+    let is2 : stored b1 (0xc200000 + 4096 * c) 4 (low_bytes 4 threshold) ≡ b2 = threshold_stored b1 c (low_bytes 4 threshold) (omega arith) (omega arith) ∙ ap (λ w. record b1 { plic = record b1.plic { threshold = slice_set b.plic.threshold c w } }) t_kept in
     let known1 : Known = cond (e == 0) known (knows 6 e known) in
     let points1 : Points five seven known1 = points_six (e == 0) five seven e known points in
     let a : ℕ = 0xc200000 + 4096 * c in
     let known2 : Known = knows 5 a known1 in
     let points2 : Points a seven known2 = points_five five seven a known1 points1 in
-    let known3 : Known = cond (t == 0) known2 (knows 6 t known2) in
-    let points3 : Points a seven known3 = points_six (t == 0) a seven t known2 points2 in
-    let more : List Deed = context_deeds k (suc c) es ts rest in
-    run_on n ram known b b1 b' (Save Word e 4 (pos (128 * c)) (0xc002000 + 128 * c)) (Aim 5 a ∷ Save Word t 5 (pos 0) a ∷ more)
+    let known3 : Known = cond (threshold == 0) known2 (knows 6 threshold known2) in
+    let points3 : Points a seven known3 = points_six (threshold == 0) a seven threshold known2 points2 in
+    let more : List Deed = context_deeds k (suc c) enables thresholds rest in
+    run_on n ram known b b1 b' (Save Word e 4 (pos (128 * c)) (0xc002000 + 128 * c)) (Aim 5 a ∷ Save Word threshold 5 (pos 0) a ∷ more)
     (omega arith, reached n known Word 4 (pos (128 * c)) (0xc002000 + 128 * c) 0xc002000 points.four (omega arith) (omega arith) (omega arith) (up (128 * c) (omega arith)) (omega arith) (omega arith) (omega arith) (enable_listed n c (omega arith) (omega arith)), unsent_below ram b (0xc002000 + 128 * c) 4 (low_bytes 4 e) (omega arith))
     is1 (
       ((omega arith), (omega arith), (omega arith), (omega arith)),
-      run_on n ram known2 b1 b2 b' (Save Word t 5 (pos 0) a) more
-          (omega arith, reached n known2 Word 5 (pos 0) a a points2.five_is (omega arith) (omega arith) (omega arith) (up 0 (omega arith)) (omega arith) (omega arith) (omega arith) (threshold_listed n c (omega arith) (omega arith)), unsent_below ram b1 a 4 (low_bytes 4 t) (omega arith))
+      run_on n ram known2 b1 b2 b' (Save Word threshold 5 (pos 0) a) more
+          (omega arith, reached n known2 Word 5 (pos 0) a a points2.five_is (omega arith) (omega arith) (omega arith) (up 0 (omega arith)) (omega arith) (omega arith) (omega arith) (threshold_listed n c (omega arith) (omega arith)), unsent_below ram b1 a 4 (low_bytes 4 threshold) (omega arith))
           is2
-          (context_runs k (suc c) es ts rest n ram a seven known3 b2 b' points3 (omega arith) most count1 enables thresholds then_rest),
+          (context_runs k (suc c) enables thresholds rest n ram a seven known3 b2 b' points3 (omega arith) most count1 enables_fit thresholds_fit then_rest),
     )
 
 -- ---- msip and mtimecmp
@@ -171,18 +171,18 @@ put_whole from xs same =
     same_lists _ from (count ∙ sym same) (λ j d k. get_or_default _ j d 0 k ∙ put_at (length xs) 0 j from xs (omega arith) (omega (arith, k, count)) (omega arith) ∙ get_or_default from j 0 d (omega (arith, k, count, same)))
 
 abbrev reset_of : ClintRegisters → List ℕ → List ℕ → BoardState
-reset_of c es ts = record { clint = c; plic = record { priority = 0 ∷ 0 ∷ []; enable = es; threshold = ts; served = 0 }; console = record { queue = []; ctrl = 0; txaddr = 0 } }
+reset_of c enables thresholds = record { clint = c; plic = record { priority = 0 ∷ 0 ∷ []; enable = enables; threshold = thresholds; served = 0 }; console = record { queue = []; ctrl = 0; txaddr = 0 } }
 
 abbrev marked_of : ClintRegisters → List ℕ → List ℕ → ℕ → List ℕ → BoardState
-marked_of c es ts m q = record { clint = c; plic = record { priority = 1 ∷ 1 ∷ []; enable = slice_set es 0 m; threshold = ts; served = m }; console = record { queue = q; ctrl = 7; txaddr = 0 } }
+marked_of c enables thresholds m q = record { clint = c; plic = record { priority = 1 ∷ 1 ∷ []; enable = slice_set enables 0 m; threshold = thresholds; served = m }; console = record { queue = q; ctrl = 7; txaddr = 0 } }
 
-data_taken : (c : ClintRegisters) (es ts : List ℕ) (m : ℕ) → after_load (marked_of c es ts m (0 ∷ [])) 0x10000000 1 ≡ marked_of c es ts m []
+data_taken : (c : ClintRegisters) (enables thresholds : List ℕ) (m : ℕ) → after_load (marked_of c enables thresholds m (0 ∷ [])) 0x10000000 1 ≡ marked_of c enables thresholds m []
 unfolding console_after console_register
-data_taken c es ts m = data_loaded (marked_of c es ts m (0 ∷ []))
+data_taken c enables thresholds m = data_loaded (marked_of c enables thresholds m (0 ∷ []))
 
-marks_runs : (c : ClintRegisters) (es ts : List ℕ) (m : ℕ) (rest : List Deed) (n : ℕ) (ram : List ℕ) (known : Known) (b' : BoardState) → IsWithinSources m → 0 < n → n ≤ 8 → length es ≡ 2 * n →
-    ((five seven : ℕ) (known' : Known) → Points five seven known' → Runs n ram known' (marked_of c es ts m []) rest b') → Runs n ram known (reset_of c es ts) (marks_deeds m rest) b'
-marks_runs c es ts m rest n ram known b' fits some most count then_rest =
+marks_runs : (c : ClintRegisters) (enables thresholds : List ℕ) (m : ℕ) (rest : List Deed) (n : ℕ) (ram : List ℕ) (known : Known) (b' : BoardState) → IsWithinSources m → 0 < n → n ≤ 8 → length enables ≡ 2 * n →
+    ((five seven : ℕ) (known' : Known) → Points five seven known' → Runs n ram known' (marked_of c enables thresholds m []) rest b') → Runs n ram known (reset_of c enables thresholds) (marks_deeds m rest) b'
+marks_runs c enables thresholds m rest n ram known b' fits some most count then_rest =
     let known1 : Known = knows 5 0xc200000 (knows 4 0xc002000 (knows 3 0xc000000 (knows 2 0x10000000 known))) in
     let seven : ℕ = known 7 in
     let points1 : Points 0xc200000 seven known1 = record { two = refl; three = refl; four = refl; five_is = refl; seven_is = refl } in
@@ -193,10 +193,10 @@ marks_runs c es ts m rest n ram known b' fits some most count then_rest =
     let known4 : Known = knows 6 7 known3 in
     let points4 : Points 0xc200000 seven known4 = points_six false 0xc200000 seven 7 known3 points3 in
     let small : m < 8 = within_small m fits in
-    let b0 : BoardState = reset_of c es ts in
+    let b0 : BoardState = reset_of c enables thresholds in
     let b1 : BoardState = record b0 { plic = record b0.plic { priority = 1 ∷ 0 ∷ [] } } in
     let b2 : BoardState = record b0 { plic = record b0.plic { priority = 1 ∷ 1 ∷ [] } } in
-    let b3 : BoardState = record b0 { plic = record b0.plic { priority = 1 ∷ 1 ∷ []; enable = slice_set es 0 m } } in
+    let b3 : BoardState = record b0 { plic = record b0.plic { priority = 1 ∷ 1 ∷ []; enable = slice_set enables 0 m } } in
     let b4 : BoardState = record b3 { console = record { queue = []; ctrl = 7; txaddr = 0 } } in
     let b5 : BoardState = record b3 { console = record { queue = 0 ∷ []; ctrl = 7; txaddr = 0 } } in
     let b6 : BoardState = after_load b5 0xc200004 4 in
@@ -206,8 +206,8 @@ marks_runs c es ts m rest n ram known b' fits some most count then_rest =
     let points5 : Points 0xc200000 seven known5 = points_six false 0xc200000 seven v1 known4 points4 in
     let known6 : Known = knows 6 v2 known5 in
     let points6 : Points 0xc200000 seven known6 = points_six false 0xc200000 seven v2 known5 points5 in
-    let b7 : BoardState = marked_of c es ts m (0 ∷ []) in
-    let b8 : BoardState = marked_of c es ts m [] in
+    let b7 : BoardState = marked_of c enables thresholds m (0 ∷ []) in
+    let b8 : BoardState = marked_of c enables thresholds m [] in
     let v3 : ℕ = extended 1 (board_device b7 0x10000000 1) in
     let known7 : Known = knows 6 v3 known6 in
     let points7 : Points 0xc200000 seven known7 = points_six false 0xc200000 seven v3 known6 points6 in
@@ -219,13 +219,13 @@ marks_runs c es ts m rest n ram known b' fits some most count then_rest =
     let ds5 : List Deed = Save Word 7 2 (pos 8) 0x10000008 ∷ ds6 in
     let ds4 : List Deed = Save Word m 4 (pos 0) 0xc002000 ∷ ds5 in
     let ds3 : List Deed = Again Word 1 3 (pos 8) 0xc000008 ∷ ds4 in
-    let set_m : stored b2 0xc002000 4 (low_bytes 4 m) ≡ b3 = enable_stored b2 0 (low_bytes 4 m) (omega arith) (omega arith) ∙ ap (λ w. record b0 { plic = record b0.plic { priority = 1 ∷ 1 ∷ []; enable = slice_set es 0 w } }) (enable_twice m fits) in
+    let set_m : stored b2 0xc002000 4 (low_bytes 4 m) ≡ b3 = enable_stored b2 0 (low_bytes 4 m) (omega arith) (omega arith) ∙ ap (λ w. record b0 { plic = record b0.plic { priority = 1 ∷ 1 ∷ []; enable = slice_set enables 0 w } }) (enable_twice m fits) in
     let read3 : Runs n ram known6 b7 ds9 b' =
     run_on n ram known6 b7 b8 b' (Read Byte 2 (pos 0) 0x10000000) rest
     (reached n known6 Byte 2 (pos 0) 0x10000000 0x10000000 points6.two (omega arith) (omega arith) (omega arith) (up 0 (omega arith)) refl refl (omega arith) (data_listed n))
-    (data_taken c es ts m) (then_rest 0xc200000 seven known7 points7) in
+    (data_taken c enables thresholds m) (then_rest 0xc200000 seven known7 points7) in
     let read2 : Runs n ram known5 b6 ds8 b' =
-    run_on n ram known5 b6 b7 b' (Read Word 5 (pos 4) 0xc200004) ds9 (claim known5 points5) (marks_set c es ts m (omega arith) (omega arith) fits) read3 in
+    run_on n ram known5 b6 b7 b' (Read Word 5 (pos 4) 0xc200004) ds9 (claim known5 points5) (marks_set c enables thresholds m (omega arith) (omega arith) fits) read3 in
     let read1 : Runs n ram known4 b5 ds7 b' = (claim known4 points4, read2) in
     let fill : Runs n ram known4 b4 ds6 b' =
     run_on n ram known4 b4 b5 b' (Save Byte 0 2 (pos 0) 0x10000000) ds7
@@ -257,68 +257,68 @@ two_list (x ∷ []) e = absurd (omega arith)
 two_list (x ∷ y ∷ []) e = refl
 two_list (x ∷ y ∷ z ∷ xs) e = absurd (omega arith)
 
-timer_runs : (t : BoardState) (n : ℕ) (ram : List ℕ) (five seven : ℕ) (known : Known) (b : BoardState) → IsFit t → hart_count t.clint ≡ n → Points five seven known → length b.clint.msip ≡ n → length b.clint.mtimecmp ≡ n → Runs n ram known b (timer_deeds t) (record b { clint = t.clint })
-timer_runs t n ram five seven known b fit count points soft_count compare_count =
+timer_runs : (target : BoardState) (n : ℕ) (ram : List ℕ) (five seven : ℕ) (known : Known) (b : BoardState) → IsFit target → hart_count target.clint ≡ n → Points five seven known → length b.clint.msip ≡ n → length b.clint.mtimecmp ≡ n → Runs n ram known b (timer_deeds target) (record b { clint = target.clint })
+timer_runs target n ram five seven known b fit count points soft_count compare_count =
     let most : n ≤ 8 = (let k = fit.clint.most in omega arith) in
-    let xs : List ℕ = put_x (hart_count t.clint) 0 t.clint.msip b.clint.msip in
-    let ys : List ℕ = put_x (hart_count t.clint) 0 t.clint.mtimecmp b.clint.mtimecmp in
-    let xs_is : xs ≡ t.clint.msip = ap (λ k. put_x k 0 t.clint.msip b.clint.msip) (count ∙ sym soft_count) ∙ put_whole t.clint.msip b.clint.msip (count ∙ sym soft_count) in
-    let ys_is : ys ≡ t.clint.mtimecmp = ap (λ k. put_x k 0 t.clint.mtimecmp b.clint.mtimecmp) (count ∙ sym compare_count) ∙ put_whole t.clint.mtimecmp b.clint.mtimecmp (fit.clint.same ∙ count ∙ sym compare_count) in
+    let xs : List ℕ = put_x (hart_count target.clint) 0 target.clint.msip b.clint.msip in
+    let ys : List ℕ = put_x (hart_count target.clint) 0 target.clint.mtimecmp b.clint.mtimecmp in
+    let xs_is : xs ≡ target.clint.msip = ap (λ k. put_x k 0 target.clint.msip b.clint.msip) (count ∙ sym soft_count) ∙ put_whole target.clint.msip b.clint.msip (count ∙ sym soft_count) in
+    let ys_is : ys ≡ target.clint.mtimecmp = ap (λ k. put_x k 0 target.clint.mtimecmp b.clint.mtimecmp) (count ∙ sym compare_count) ∙ put_whole target.clint.mtimecmp b.clint.mtimecmp (fit.clint.same ∙ count ∙ sym compare_count) in
     let xs_count : length xs ≡ n = ap length xs_is ∙ count in
-    let time : ℕ = t.clint.mtime in
+    let time : ℕ = target.clint.mtime in
     let time_small : time < 2 ^ 64 = fit.clint.time in
     let b1 : BoardState = record b { clint = record b.clint { msip = xs } } in
     let b2 : BoardState = record b { clint = record b.clint { msip = xs; mtimecmp = ys } } in
-    let b' : BoardState = record b { clint = t.clint } in
+    let b' : BoardState = record b { clint = target.clint } in
     let kept : low_bytes 8 (low_bytes 8 time) ≡ time = omega arith in
     let is : stored b2 0x200bff8 8 (low_bytes 8 time) ≡ b' =
     time_stored b2 (low_bytes 8 time)
     ∙ ap (λ w. record b { clint = record { msip = xs; mtimecmp = ys; mtime = w } }) kept
     ∙ ap (λ w. record b { clint = record { msip = w; mtimecmp = ys; mtime = time } }) xs_is
-    ∙ ap (λ w. record b { clint = record { msip = t.clint.msip; mtimecmp = w; mtime = time } }) ys_is in
+    ∙ ap (λ w. record b { clint = record { msip = target.clint.msip; mtimecmp = w; mtime = time } }) ys_is in
     let last : (known : Known) → Points 0x2000000 0x2004000 known → Runs n ram known b2 (Aim 5 0x200c000 ∷ Save Double time 5 (negsuc 7) 0x200bff8 ∷ []) b' = λ known p. (
       (omega arith, omega arith, omega arith, refl),
       run_on n ram (knows 5 0x200c000 known) b2 b' b' (Save Double time 5 (negsuc 7) 0x200bff8) []
           (time_small, reached n (knows 5 0x200c000 known) Double 5 (negsuc 7) 0x200bff8 0x200c000 refl (omega arith) (omega arith) (omega arith) (omega (arith, ints), omega (arith, ints)) refl refl (omega arith) (time_listed n), unsent_below ram b2 0x200bff8 8 (low_bytes 8 time) (omega arith))
           is refl,
     ) in
-    let compares : (known : Known) → Points 0x2000000 seven known → Runs n ram known b1 (Aim 7 0x2004000 ∷ compare_deeds (hart_count t.clint) 0 t.clint.mtimecmp (Aim 5 0x200c000 ∷ Save Double time 5 (negsuc 7) 0x200bff8 ∷ [])) b' = λ known p. (
+    let compares : (known : Known) → Points 0x2000000 seven known → Runs n ram known b1 (Aim 7 0x2004000 ∷ compare_deeds (hart_count target.clint) 0 target.clint.mtimecmp (Aim 5 0x200c000 ∷ Save Double time 5 (negsuc 7) 0x200bff8 ∷ [])) b' = λ known p. (
       (omega arith, omega arith, omega arith, refl),
-      compare_runs (hart_count t.clint) 0 t.clint.mtimecmp _ n ram 0x2000000 (knows 7 0x2004000 known) b1 b' (points_seven 0x2000000 seven 0x2004000 known p) (omega arith) most xs_count (λ i k. fit.clint.compares i 0 (let e = fit.clint.same in omega arith)) last,
+      compare_runs (hart_count target.clint) 0 target.clint.mtimecmp _ n ram 0x2000000 (knows 7 0x2004000 known) b1 b' (points_seven 0x2000000 seven 0x2004000 known p) (omega arith) most xs_count (λ i k. fit.clint.compares i 0 (let e = fit.clint.same in omega arith)) last,
     ) in (
       (omega arith, omega arith, omega arith, refl),
-      soft_runs (hart_count t.clint) 0 t.clint.msip _ n ram seven (knows 5 0x2000000 known) b b' (points_five five seven 0x2000000 known points) (omega arith) most soft_count (λ i k. fit.clint.bits i 0 (omega arith)) compares,
+      soft_runs (hart_count target.clint) 0 target.clint.msip _ n ram seven (knows 5 0x2000000 known) b b' (points_five five seven 0x2000000 known points) (omega arith) most soft_count (λ i k. fit.clint.bits i 0 (omega arith)) compares,
     )
 
 -- the rest of the block, behind the marks
-kept_runs : (t : BoardState) (n : ℕ) (ram : List ℕ) (five seven : ℕ) (known : Known) (c : ClintRegisters) (es ts : List ℕ) → IsFit t → hart_count t.clint ≡ n → Points five seven known → length c.msip ≡ n → length c.mtimecmp ≡ n → length es ≡ 2 * n → length ts ≡ 2 * n →
-    Runs n ram known (record { clint = c; plic = record { priority = 1 ∷ 1 ∷ []; enable = es; threshold = ts; served = t.plic.served }; console = record { queue = []; ctrl = 7; txaddr = 0 } }) (queue_deeds t.console.queue (
-    Save Word (slice_index t.plic.priority 0) 3 (pos 4) 0xc000004 ∷ Save Word (slice_index t.plic.priority 1) 3 (pos 8) 0xc000008
-    ∷ context_deeds (context_count t.plic) 0 t.plic.enable t.plic.threshold (
-    Save Word t.console.ctrl 2 (pos 8) 0x10000008 ∷ Save Double t.console.txaddr 2 (pos 16) 0x10000010
-    ∷ timer_deeds t))) t
-kept_runs t n ram five seven known c es ts fit count points soft_count compare_count es_count ts_count =
+kept_runs : (target : BoardState) (n : ℕ) (ram : List ℕ) (five seven : ℕ) (known : Known) (c : ClintRegisters) (enables thresholds : List ℕ) → IsFit target → hart_count target.clint ≡ n → Points five seven known → length c.msip ≡ n → length c.mtimecmp ≡ n → length enables ≡ 2 * n → length thresholds ≡ 2 * n →
+    Runs n ram known (record { clint = c; plic = record { priority = 1 ∷ 1 ∷ []; enable = enables; threshold = thresholds; served = target.plic.served }; console = record { queue = []; ctrl = 7; txaddr = 0 } }) (queue_deeds target.console.queue (
+    Save Word (slice_index target.plic.priority 0) 3 (pos 4) 0xc000004 ∷ Save Word (slice_index target.plic.priority 1) 3 (pos 8) 0xc000008
+    ∷ context_deeds (context_count target.plic) 0 target.plic.enable target.plic.threshold (
+    Save Word target.console.ctrl 2 (pos 8) 0x10000008 ∷ Save Double target.console.txaddr 2 (pos 16) 0x10000010
+    ∷ timer_deeds target))) target
+kept_runs target n ram five seven known c enables thresholds fit count points soft_count compare_count enables_count thresholds_count =
     let most : n ≤ 8 = (let k = fit.clint.most in omega arith) in
-    let m : ℕ = t.plic.served in
-    let q : List ℕ = t.console.queue in
-    let p1 : ℕ = slice_index t.plic.priority 0 in
-    let p2 : ℕ = slice_index t.plic.priority 1 in
+    let m : ℕ = target.plic.served in
+    let q : List ℕ = target.console.queue in
+    let p1 : ℕ = slice_index target.plic.priority 0 in
+    let p2 : ℕ = slice_index target.plic.priority 1 in
     let p1_small : p1 ≤ 7 = fit.plic.priorities 0 0 (let k = fit.plic.sources in omega arith) in
     let p2_small : p2 ≤ 7 = fit.plic.priorities 1 0 (let k = fit.plic.sources in omega arith) in
-    let ctrl : ℕ = t.console.ctrl in
+    let ctrl : ℕ = target.console.ctrl in
     let ctrl_small : ctrl ≤ 7 = fit.console.ctrl in
-    let tx : ℕ = t.console.txaddr in
+    let tx : ℕ = target.console.txaddr in
     let tx_small : tx < 2 ^ 64 = fit.console.txaddr in
-    let contexts : context_count t.plic ≡ 2 * n = fit.contexts ∙ ap (λ k. 2 * k) count in
-    let es' : List ℕ = put_x (context_count t.plic) 0 t.plic.enable es in
-    let ts' : List ℕ = put_x (context_count t.plic) 0 t.plic.threshold ts in
-    let es_is : es' ≡ t.plic.enable = ap (λ k. put_x k 0 t.plic.enable es) (contexts ∙ sym es_count) ∙ put_whole t.plic.enable es (contexts ∙ sym es_count) in
-    let ts_is : ts' ≡ t.plic.threshold = ap (λ k. put_x k 0 t.plic.threshold ts) (contexts ∙ sym ts_count) ∙ put_whole t.plic.threshold ts (fit.plic.same ∙ contexts ∙ sym ts_count) in
+    let contexts : context_count target.plic ≡ 2 * n = fit.contexts ∙ ap (λ k. 2 * k) count in
+    let enables' : List ℕ = put_x (context_count target.plic) 0 target.plic.enable enables in
+    let thresholds' : List ℕ = put_x (context_count target.plic) 0 target.plic.threshold thresholds in
+    let enables_is : enables' ≡ target.plic.enable = ap (λ k. put_x k 0 target.plic.enable enables) (contexts ∙ sym enables_count) ∙ put_whole target.plic.enable enables (contexts ∙ sym enables_count) in
+    let thresholds_is : thresholds' ≡ target.plic.threshold = ap (λ k. put_x k 0 target.plic.threshold thresholds) (contexts ∙ sym thresholds_count) ∙ put_whole target.plic.threshold thresholds (fit.plic.same ∙ contexts ∙ sym thresholds_count) in
     let loop : ConsoleRegisters = record { queue = q; ctrl = 7; txaddr = 0 } in
-    let b1 : BoardState = record { clint = c; plic = record { priority = 1 ∷ 1 ∷ []; enable = es; threshold = ts; served = m }; console = loop } in
-    let b2 : BoardState = record { clint = c; plic = record { priority = p1 ∷ 1 ∷ []; enable = es; threshold = ts; served = m }; console = loop } in
-    let b3 : BoardState = record { clint = c; plic = record { priority = p1 ∷ p2 ∷ []; enable = es; threshold = ts; served = m }; console = loop } in
-    let b4 : BoardState = record { clint = c; plic = record { priority = p1 ∷ p2 ∷ []; enable = es'; threshold = ts'; served = m }; console = loop } in
+    let b1 : BoardState = record { clint = c; plic = record { priority = 1 ∷ 1 ∷ []; enable = enables; threshold = thresholds; served = m }; console = loop } in
+    let b2 : BoardState = record { clint = c; plic = record { priority = p1 ∷ 1 ∷ []; enable = enables; threshold = thresholds; served = m }; console = loop } in
+    let b3 : BoardState = record { clint = c; plic = record { priority = p1 ∷ p2 ∷ []; enable = enables; threshold = thresholds; served = m }; console = loop } in
+    let b4 : BoardState = record { clint = c; plic = record { priority = p1 ∷ p2 ∷ []; enable = enables'; threshold = thresholds'; served = m }; console = loop } in
     let b5 : BoardState = record { clint = c; plic = b4.plic; console = record { queue = q; ctrl = ctrl; txaddr = 0 } } in
     let b6 : BoardState = record { clint = c; plic = b4.plic; console = record { queue = q; ctrl = ctrl; txaddr = tx } } in
     let p1_kept : low_bytes 4 (low_bytes 4 p1) % 8 ≡ p1 = omega arith in
@@ -329,49 +329,49 @@ kept_runs t n ram five seven known c es ts fit count points soft_count compare_c
     let is3 : stored b2 0xc000008 4 (low_bytes 4 p2) ≡ b3 = priority_second b2 (low_bytes 4 p2) ∙ ap (λ w. record b1 { plic = record b1.plic { priority = p1 ∷ w ∷ [] } }) p2_kept in
     let is5 : stored b4 0x10000008 4 (low_bytes 4 ctrl) ≡ b5 = ctrl_stored b4 (low_bytes 4 ctrl) ∙ ap (λ w. record b4 { console = record { queue = q; ctrl = w; txaddr = 0 } }) ctrl_kept in
     let is6 : stored b5 0x10000010 8 (low_bytes 8 tx) ≡ b6 = txaddr_stored b5 (low_bytes 8 tx) ∙ ap (λ w. record b5 { console = record { queue = q; ctrl = ctrl; txaddr = w } }) tx_kept in
-    let end : record b6 { clint = t.clint } ≡ t =
-    ap (λ w. record t { plic = record { priority = w; enable = es'; threshold = ts'; served = m } }) (two_list t.plic.priority fit.plic.sources)
-    ∙ ap (λ w. record t { plic = record t.plic { enable = w; threshold = ts' } }) es_is
-    ∙ ap (λ w. record t { plic = record t.plic { threshold = w } }) ts_is in
-    let ds6 : List Deed = timer_deeds t in
+    let end : record b6 { clint = target.clint } ≡ target =
+    ap (λ w. record target { plic = record { priority = w; enable = enables'; threshold = thresholds'; served = m } }) (two_list target.plic.priority fit.plic.sources)
+    ∙ ap (λ w. record target { plic = record target.plic { enable = w; threshold = thresholds' } }) enables_is
+    ∙ ap (λ w. record target { plic = record target.plic { threshold = w } }) thresholds_is in
+    let ds6 : List Deed = timer_deeds target in
     let ds5 : List Deed = Save Double tx 2 (pos 16) 0x10000010 ∷ ds6 in
     let ds4 : List Deed = Save Word ctrl 2 (pos 8) 0x10000008 ∷ ds5 in
-    let ds3 : List Deed = context_deeds (context_count t.plic) 0 t.plic.enable t.plic.threshold ds4 in
+    let ds3 : List Deed = context_deeds (context_count target.plic) 0 target.plic.enable target.plic.threshold ds4 in
     let ds2 : List Deed = Save Word p2 3 (pos 8) 0xc000008 ∷ ds3 in
-    let sends : (five : ℕ) (known : Known) → Points five seven known → Runs n ram known b4 ds4 t = λ five known p.
+    let sends : (five : ℕ) (known : Known) → Points five seven known → Runs n ram known b4 ds4 target = λ five known p.
     let known1 : Known = cond (ctrl == 0) known (knows 6 ctrl known) in
     let points1 : Points five seven known1 = points_six (ctrl == 0) five seven ctrl known p in
     let known2 : Known = cond (tx == 0) known1 (knows 6 tx known1) in
     let points2 : Points five seven known2 = points_six (tx == 0) five seven tx known1 points1 in
-    run_on n ram known b4 b5 t (Save Word ctrl 2 (pos 8) 0x10000008) ds5
+    run_on n ram known b4 b5 target (Save Word ctrl 2 (pos 8) 0x10000008) ds5
     (omega arith, reached n known Word 2 (pos 8) 0x10000008 0x10000000 p.two (omega arith) (omega arith) (omega arith) (up 8 (omega arith)) refl refl (omega arith) (ctrl_listed n), ctrl_unsent ram b4 (low_bytes 4 ctrl))
     is5
-    (run_on n ram known1 b5 b6 t (Save Double tx 2 (pos 16) 0x10000010) ds6
+    (run_on n ram known1 b5 b6 target (Save Double tx 2 (pos 16) 0x10000010) ds6
     (tx_small, reached n known1 Double 2 (pos 16) 0x10000010 0x10000000 points1.two (omega arith) (omega arith) (omega arith) (up 16 (omega arith)) refl refl (omega arith) (txaddr_listed n), txaddr_unsent ram b5 (low_bytes 8 tx))
     is6
-    (subst (λ x. Runs n ram known2 b6 ds6 x) end (timer_runs t n ram five seven known2 b6 fit count points2 soft_count compare_count))) in
-    let priorities : (known : Known) → Points five seven known → Runs n ram known b1 (Save Word p1 3 (pos 4) 0xc000004 ∷ ds2) t = λ known p.
+    (subst (λ x. Runs n ram known2 b6 ds6 x) end (timer_runs target n ram five seven known2 b6 fit count points2 soft_count compare_count))) in
+    let priorities : (known : Known) → Points five seven known → Runs n ram known b1 (Save Word p1 3 (pos 4) 0xc000004 ∷ ds2) target = λ known p.
     let known1 : Known = cond (p1 == 0) known (knows 6 p1 known) in
     let points1 : Points five seven known1 = points_six (p1 == 0) five seven p1 known p in
     let known2 : Known = cond (p2 == 0) known1 (knows 6 p2 known1) in
     let points2 : Points five seven known2 = points_six (p2 == 0) five seven p2 known1 points1 in
-    run_on n ram known b1 b2 t (Save Word p1 3 (pos 4) 0xc000004) ds2
+    run_on n ram known b1 b2 target (Save Word p1 3 (pos 4) 0xc000004) ds2
     (omega arith, reached n known Word 3 (pos 4) 0xc000004 0xc000000 p.three (omega arith) (omega arith) (omega arith) (up 4 (omega arith)) refl refl (omega arith) (first_listed n), unsent_below ram b1 0xc000004 4 (low_bytes 4 p1) (omega arith))
     is2
-    (run_on n ram known1 b2 b3 t (Save Word p2 3 (pos 8) 0xc000008) ds3
+    (run_on n ram known1 b2 b3 target (Save Word p2 3 (pos 8) 0xc000008) ds3
     (omega arith, reached n known1 Word 3 (pos 8) 0xc000008 0xc000000 points1.three (omega arith) (omega arith) (omega arith) (up 8 (omega arith)) refl refl (omega arith) (second_listed n), unsent_below ram b2 0xc000008 4 (low_bytes 4 p2) (omega arith))
     is3
-    (context_runs (context_count t.plic) 0 t.plic.enable t.plic.threshold ds4 n ram five seven known2 b3 t points2 (omega arith) most es_count
+    (context_runs (context_count target.plic) 0 target.plic.enable target.plic.threshold ds4 n ram five seven known2 b3 target points2 (omega arith) most enables_count
     (λ i k. fit.plic.enables i 0 (omega arith)) (λ i k. fit.plic.thresholds i 0 (let e = fit.plic.same in omega arith)) sends)) in
-    queue_runs q (Save Word p1 3 (pos 4) 0xc000004 ∷ ds2) n ram five seven known (record b1 { console = record { queue = []; ctrl = 7; txaddr = 0 } }) t points refl (let k = fit.console.room in omega arith) fit.console.bytes priorities
+    queue_runs q (Save Word p1 3 (pos 4) 0xc000004 ∷ ds2) n ram five seven known (record b1 { console = record { queue = []; ctrl = 7; txaddr = 0 } }) target points refl (let k = fit.console.room in omega arith) fit.console.bytes priorities
 
 -- devices_restored: from devices at reset to the given ones, and nothing is sent
-pub devices_run : (t : BoardState) (ram : List ℕ) (known : Known) → IsFit t → Runs (hart_count t.clint) ram known (reset_board (hart_count t.clint)) (device_deeds t) t
+pub devices_run : (target : BoardState) (ram : List ℕ) (known : Known) → IsFit target → Runs (hart_count target.clint) ram known (reset_board (hart_count target.clint)) (device_deeds target) target
 unfolding reset_board plic.reset_registers clint.reset_registers
-devices_run t ram known fit =
-    let n : ℕ = hart_count t.clint in
+devices_run target ram known fit =
+    let n : ℕ = hart_count target.clint in
     let c : ClintRegisters = record { msip = replicate n 0; mtimecmp = replicate n (2 ^ 64 - 1); mtime = 0 } in
     let zeros : List ℕ = replicate (2 * n) 0 in
     let count : length zeros ≡ 2 * n = length-replicate (2 * n) 0 in
-    marks_runs c zeros zeros t.plic.served _ n ram known t fit.plic.served fit.clint.some fit.clint.most count
-    (λ five seven known' points. kept_runs t n ram five seven known' c (slice_set zeros 0 t.plic.served) zeros fit refl points (length-replicate n 0) (length-replicate n (2 ^ 64 - 1)) (length-set zeros 0 t.plic.served ∙ count) count)
+    marks_runs c zeros zeros target.plic.served _ n ram known target fit.plic.served fit.clint.some fit.clint.most count
+    (λ five seven known' points. kept_runs target n ram five seven known' c (slice_set zeros 0 target.plic.served) zeros fit refl points (length-replicate n 0) (length-replicate n (2 ^ 64 - 1)) (length-set zeros 0 target.plic.served ∙ count) count)

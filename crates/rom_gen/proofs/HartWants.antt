@@ -24,18 +24,18 @@ csrs_append [] c r = refl
 csrs_append (Reg i v ∷ a) c r = csrs_append a c r
 csrs_append (Control number v ∷ a) c r = csrs_append a c (written number v r)
 
-slots_are : (t r : Registers) (slots : List Slot) → all_csrs (slot_wants t slots) r ≡ put_back t slots r
+slots_are : (target r : Registers) (slots : List Slot) → all_csrs (slot_wants target slots) r ≡ put_back target slots r
 unfolding slot_wants
-slots_are t r [] = refl
-slots_are t r (s ∷ slots) = slots_are t (written s.number (kept_value s.number t) r) slots
+slots_are target r [] = refl
+slots_are target r (s ∷ slots) = slots_are target (written s.number (kept_value s.number target) r) slots
 
 -- registers_restored, whatever the spelling
-pub controls_restore : (t : Hart) → IsFit t.csrs → ((old : ℕ) → legal csr_dpc old t.pc ≡ t.pc) → all_csrs (controls t) (debug_registers t.csrs.hart) ≡ record t.csrs { debug = Some (record reset_debug_registers { dcsr = dcsr_fixed + level t.mode; dpc = t.pc }) }
-controls_restore t fit even =
-    let last : List Want = Control csr_dcsr (dcsr_fixed + level t.mode) ∷ Control csr_dpc t.pc ∷ [] in
-    csrs_append (slot_wants t.csrs kept_slots) last (debug_registers t.csrs.hart)
-    ∙ ap (all_csrs last) (slots_are t.csrs (debug_registers t.csrs.hart) kept_slots ∙ kept_back t.csrs fit)
-    ∙ debug_back t.csrs t.mode t.pc even
+pub controls_restore : (target : Hart) → IsFit target.csrs → ((old : ℕ) → legal csr_dpc old target.pc ≡ target.pc) → all_csrs (controls target) (debug_registers target.csrs.hart) ≡ record target.csrs { debug = Some (record reset_debug_registers { dcsr = dcsr_fixed + level target.mode; dpc = target.pc }) }
+controls_restore target fit even =
+    let last : List Want = Control csr_dcsr (dcsr_fixed + level target.mode) ∷ Control csr_dpc target.pc ∷ [] in
+    csrs_append (slot_wants target.csrs kept_slots) last (debug_registers target.csrs.hart)
+    ∙ ap (all_csrs last) (slots_are target.csrs (debug_registers target.csrs.hart) kept_slots ∙ kept_back target.csrs fit)
+    ∙ debug_back target.csrs target.mode target.pc even
 
 -- ---- x0 to x31
 
@@ -66,64 +66,64 @@ controls_x {spell = spell} {values = values} layout off (Control number v ∷ ws
 
 -- the registers that are put one after another
 unfoldable pub put_x : ℕ → ℕ → List ℕ → List ℕ → List ℕ
-put_x zero i ts xs = xs
-put_x (suc n) i ts xs = put_x n (suc i) ts (slice_set xs i (slice_index ts i))
+put_x zero i wanted xs = xs
+put_x (suc n) i wanted xs = put_x n (suc i) wanted (slice_set xs i (slice_index wanted i))
 
-pub numbered_x : {spell : ℕ → Want → List Spelling} {values : Want → List ℕ} → IsLayout spell values → (off n i : ℕ) (ts : List ℕ) (hart : Hart) → AllGood (numbered n i ts) → length hart.x ≡ 32 → (hart_all (placed spell values off (numbered n i ts)) hart).x ≡ put_x n i ts hart.x
+pub numbered_x : {spell : ℕ → Want → List Spelling} {values : Want → List ℕ} → IsLayout spell values → (off n i : ℕ) (wanted : List ℕ) (hart : Hart) → AllGood (numbered n i wanted) → length hart.x ≡ 32 → (hart_all (placed spell values off (numbered n i wanted)) hart).x ≡ put_x n i wanted hart.x
 unfolding numbered put_x
-numbered_x layout off zero i ts hart good count = refl
-numbered_x {spell = spell} {values = values} layout off (suc n) i ts hart good count =
-    let w : Want = Reg i (slice_index ts i) in
+numbered_x layout off zero i wanted hart good count = refl
+numbered_x {spell = spell} {values = values} layout off (suc n) i wanted hart good count =
+    let w : Want = Reg i (slice_index wanted i) in
     let after : Hart = hart_all (spell off w) hart in
     let leaves : Leaves w hart after = layout.leaves off w hart good.0 count in
     let next : ℕ = off + 8 * length (values w) in
-    ap (λ (x : Hart). x.x) (hart_append (spell off w) (placed spell values next (numbered n (suc i) ts)) hart)
-    ∙ numbered_x layout next n (suc i) ts after good.1 (count_kept w hart after leaves ∙ count)
-    ∙ ap (put_x n (suc i) ts) leaves.x
+    ap (λ (x : Hart). x.x) (hart_append (spell off w) (placed spell values next (numbered n (suc i) wanted)) hart)
+    ∙ numbered_x layout next n (suc i) wanted after good.1 (count_kept w hart after leaves ∙ count)
+    ∙ ap (put_x n (suc i) wanted) leaves.x
 
-pub put_below : (n i j : ℕ) (ts xs : List ℕ) → j < i → slice_index (put_x n i ts xs) j ≡ slice_index xs j
+pub put_below : (n i j : ℕ) (wanted xs : List ℕ) → j < i → slice_index (put_x n i wanted xs) j ≡ slice_index xs j
 unfolding put_x
-put_below zero i j ts xs below = refl
-put_below (suc n) i j ts xs below = put_below n (suc i) j ts (slice_set xs i (slice_index ts i)) (omega arith) ∙ get_or-set_other xs i j (slice_index ts i) 0 (omega arith)
+put_below zero i j wanted xs below = refl
+put_below (suc n) i j wanted xs below = put_below n (suc i) j wanted (slice_set xs i (slice_index wanted i)) (omega arith) ∙ get_or-set_other xs i j (slice_index wanted i) 0 (omega arith)
 
-pub put_at : (n i j : ℕ) (ts xs : List ℕ) → i ≤ j → j < i + n → i + n ≤ length xs → slice_index (put_x n i ts xs) j ≡ slice_index ts j
+pub put_at : (n i j : ℕ) (wanted xs : List ℕ) → i ≤ j → j < i + n → i + n ≤ length xs → slice_index (put_x n i wanted xs) j ≡ slice_index wanted j
 unfolding put_x
-put_at zero i j ts xs low high inside = absurd (omega arith)
-put_at (suc n) i j ts xs low high inside =
-    let v : ℕ = slice_index ts i in
+put_at zero i j wanted xs low high inside = absurd (omega arith)
+put_at (suc n) i j wanted xs low high inside =
+    let v : ℕ = slice_index wanted i in
     let ys : List ℕ = slice_set xs i v in
     let m : length ys ≡ length xs = length-set xs i v in
     ⊎_elim
-    (λ e. ap (λ z. slice_index (put_x n (suc i) ts ys) z) e ∙ put_below n (suc i) i ts ys (omega arith) ∙ get_or-set_same xs i v 0 (omega arith) ∙ ap (slice_index ts) (sym e))
-    (λ e. put_at n (suc i) j ts ys (omega arith) (omega arith) (omega arith))
+    (λ e. ap (λ z. slice_index (put_x n (suc i) wanted ys) z) e ∙ put_below n (suc i) i wanted ys (omega arith) ∙ get_or-set_same xs i v 0 (omega arith) ∙ ap (slice_index wanted) (sym e))
+    (λ e. put_at n (suc i) j wanted ys (omega arith) (omega arith) (omega arith))
     (cases_eq j i)
 
-pub put_count : (n i : ℕ) (ts xs : List ℕ) → length (put_x n i ts xs) ≡ length xs
+pub put_count : (n i : ℕ) (wanted xs : List ℕ) → length (put_x n i wanted xs) ≡ length xs
 unfolding put_x
-put_count zero i ts xs = refl
-put_count (suc n) i ts xs = put_count n (suc i) ts (slice_set xs i (slice_index ts i)) ∙ length-set xs i (slice_index ts i)
+put_count zero i wanted xs = refl
+put_count (suc n) i wanted xs = put_count n (suc i) wanted (slice_set xs i (slice_index wanted i)) ∙ length-set xs i (slice_index wanted i)
 
-same_x : (ts ys : List ℕ) → length ts ≡ 32 → length ys ≡ 32 → slice_index ys 0 ≡ slice_index ts 0 → ((j : ℕ) → 2 ≤ j → j < 32 → slice_index ys j ≡ slice_index ts j) → slice_set ys 1 (slice_index ts 1) ≡ ts
-same_x ts ys lt ly first rest =
-    let zs : List ℕ = slice_set ys 1 (slice_index ts 1) in
-    let lz : length zs ≡ 32 = length-set ys 1 (slice_index ts 1) ∙ ly in
-    let other : (j : ℕ) → j < 32 → j ≢ 1 → slice_index ys j ≡ slice_index ts j = λ j k n. ⊎_elim
-    (λ l. let z : j ≡ 0 = omega arith in ap (slice_index ys) z ∙ first ∙ ap (slice_index ts) (sym z))
+same_x : (wanted ys : List ℕ) → length wanted ≡ 32 → length ys ≡ 32 → slice_index ys 0 ≡ slice_index wanted 0 → ((j : ℕ) → 2 ≤ j → j < 32 → slice_index ys j ≡ slice_index wanted j) → slice_set ys 1 (slice_index wanted 1) ≡ wanted
+same_x wanted ys lt ly first rest =
+    let zs : List ℕ = slice_set ys 1 (slice_index wanted 1) in
+    let lz : length zs ≡ 32 = length-set ys 1 (slice_index wanted 1) ∙ ly in
+    let other : (j : ℕ) → j < 32 → j ≢ 1 → slice_index ys j ≡ slice_index wanted j = λ j k n. ⊎_elim
+    (λ l. let z : j ≡ 0 = omega arith in ap (slice_index ys) z ∙ first ∙ ap (slice_index wanted) (sym z))
     (λ l. rest j l k)
     (cases_lt j 2) in
-    let same : (j : ℕ) → j < 32 → slice_index zs j ≡ slice_index ts j = λ j k. ⊎_elim
-    (λ e. ap (slice_index zs) e ∙ get_or-set_same ys 1 (slice_index ts 1) 0 (omega arith) ∙ ap (slice_index ts) (sym e))
-    (λ n. get_or-set_other ys 1 j (slice_index ts 1) 0 n ∙ other j k n)
+    let same : (j : ℕ) → j < 32 → slice_index zs j ≡ slice_index wanted j = λ j k. ⊎_elim
+    (λ e. ap (slice_index zs) e ∙ get_or-set_same ys 1 (slice_index wanted 1) 0 (omega arith) ∙ ap (slice_index wanted) (sym e))
+    (λ n. get_or-set_other ys 1 j (slice_index wanted 1) 0 n ∙ other j k n)
     (cases_eq j 1) in
-    same_lists zs ts (lz ∙ sym lt) (λ j d k. get_or_default zs j d 0 k ∙ same j (omega arith) ∙ get_or_default ts j 0 d (omega arith))
+    same_lists zs wanted (lz ∙ sym lt) (λ j d k. get_or_default zs j d 0 k ∙ same j (omega arith) ∙ get_or_default wanted j 0 d (omega arith))
 
 -- x2 to x31 and then x1, over what the controls left
-pub x_restored : (ts xs ys : List ℕ) → length ts ≡ 32 → length xs ≡ 32 → slice_index ts 0 ≡ 0 → slice_index xs 0 ≡ 0 → SameBut2 xs ys → slice_set (put_x 30 2 ts ys) 1 (slice_index ts 1) ≡ ts
-x_restored ts xs ys lt lx t0 x0 same =
+pub x_restored : (wanted xs ys : List ℕ) → length wanted ≡ 32 → length xs ≡ 32 → slice_index wanted 0 ≡ 0 → slice_index xs 0 ≡ 0 → SameBut2 xs ys → slice_set (put_x 30 2 wanted ys) 1 (slice_index wanted 1) ≡ wanted
+x_restored wanted xs ys lt lx t0 x0 same =
     let ly : length ys ≡ 32 = same.count ∙ lx in
-    same_x ts (put_x 30 2 ts ys) lt (put_count 30 2 ts ys ∙ ly) (put_below 30 2 0 ts ys (omega arith) ∙ same.others 0 (omega arith) ∙ x0 ∙ sym t0) (λ j a b. put_at 30 2 j ts ys a b (omega arith))
+    same_x wanted (put_x 30 2 wanted ys) lt (put_count 30 2 wanted ys ∙ ly) (put_below 30 2 0 wanted ys (omega arith) ∙ same.others 0 (omega arith) ∙ x0 ∙ sym t0) (λ j a b. put_at 30 2 j wanted ys a b (omega arith))
 
-pub numbered_csrs : (n i : ℕ) (ts : List ℕ) (r : Registers) → all_csrs (numbered n i ts) r ≡ r
+pub numbered_csrs : (n i : ℕ) (wanted : List ℕ) (r : Registers) → all_csrs (numbered n i wanted) r ≡ r
 unfolding numbered
-numbered_csrs zero i ts r = refl
-numbered_csrs (suc n) i ts r = numbered_csrs n (suc i) ts r
+numbered_csrs zero i wanted r = refl
+numbered_csrs (suc n) i wanted r = numbered_csrs n (suc i) wanted r

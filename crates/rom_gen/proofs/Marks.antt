@@ -31,7 +31,7 @@ ctrl_stored b v = refl
 
 pub claim_loaded : (b : BoardState) → 0 < context_count b.plic → after_load b 0xc200004 4 ≡ record b { plic = with_served (claimed b.plic 0 (levels_of b.console)) b.plic }
 unfolding after_load place_of plic_after word_at row_at
-claim_loaded b some = let t : nat_lt 0x200004 (0x200004 + 0x1000 * context_count b.plic) ≡ true = lt-ltb _ _ (omega arith) in rw t refl
+claim_loaded b some = let low : nat_lt 0x200004 (0x200004 + 0x1000 * context_count b.plic) ≡ true = lt-ltb _ _ (omega arith) in rw low refl
 
 pub data_loaded : (b : BoardState) → after_load b 0x10000000 1 ≡ record b { console = console_after b.console 0 1 }
 unfolding after_load place_of
@@ -45,14 +45,14 @@ served_count : (s : ℕ) (r : PlicRegisters) → context_count (with_served s r)
 unfolding with_served
 served_count s r = either_count (s == 0) r _ refl
 
-pub marks_set : (clint : ClintRegisters) (es ts : List ℕ) (m : ℕ) → 0 < length es → length es ≤ 16 → IsWithinSources m →
-    let b3 : BoardState = record { clint = clint; plic = record { priority = 1 ∷ 1 ∷ []; enable = slice_set es 0 m; threshold = ts; served = 0 }; console = record { queue = 0 ∷ []; ctrl = 7; txaddr = 0 } } in
+pub marks_set : (clint : ClintRegisters) (enables thresholds : List ℕ) (m : ℕ) → 0 < length enables → length enables ≤ 16 → IsWithinSources m →
+    let b3 : BoardState = record { clint = clint; plic = record { priority = 1 ∷ 1 ∷ []; enable = slice_set enables 0 m; threshold = thresholds; served = 0 }; console = record { queue = 0 ∷ []; ctrl = 7; txaddr = 0 } } in
     after_load (after_load b3 0xc200004 4) 0xc200004 4 ≡ record b3 { plic = record b3.plic { served = m } }
-marks_set clint es ts m some most fits =
-    let b3 : BoardState = record { clint = clint; plic = record { priority = 1 ∷ 1 ∷ []; enable = slice_set es 0 m; threshold = ts; served = 0 }; console = record { queue = 0 ∷ []; ctrl = 7; txaddr = 0 } } in
+marks_set clint enables thresholds m some most fits =
+    let b3 : BoardState = record { clint = clint; plic = record { priority = 1 ∷ 1 ∷ []; enable = slice_set enables 0 m; threshold = thresholds; served = 0 }; console = record { queue = 0 ∷ []; ctrl = 7; txaddr = 0 } } in
     let r : PlicRegisters = b3.plic in
-    let count : 0 < length (slice_set es 0 m) = omega (arith, length-set es 0 m) in
+    let count : 0 < length (slice_set enables 0 m) = omega (arith, length-set enables 0 m) in
     let r1 : PlicRegisters = with_served (claimed r 0 6) r in
     let b4 : BoardState = record b3 { plic = r1 } in
     let more : 0 < context_count r1 = omega (arith, count, served_count (claimed r 0 6) r) in
-    ap (λ x. after_load x 0xc200004 4) (claim_loaded b3 count) ∙ claim_loaded b4 more ∙ ap (λ p. record b3 { plic = p }) (claims_mark r m fits refl (get_or-set_same es 0 m 0 some) refl)
+    ap (λ x. after_load x 0xc200004 4) (claim_loaded b3 count) ∙ claim_loaded b4 more ∙ ap (λ p. record b3 { plic = p }) (claims_mark r m fits refl (get_or-set_same enables 0 m 0 some) refl)

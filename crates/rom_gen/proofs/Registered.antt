@@ -40,7 +40,7 @@ time_listed n = refl
 
 pub claim_listed : (n : ℕ) → 0 < n → is_listed n 0xc200004 4 ≡ true
 unfolding is_listed place_of word_at row_at
-claim_listed n some = let t : nat_lt 0x200004 (0x200004 + 0x1000 * (2 * n)) ≡ true = lt-ltb _ _ (omega arith) in rw t refl
+claim_listed n some = let low : nat_lt 0x200004 (0x200004 + 0x1000 * (2 * n)) ≡ true = lt-ltb _ _ (omega arith) in rw low refl
 
 pub threshold_listed : (harts c : ℕ) → c < 2 * harts → 2 * harts ≤ 16 → is_listed harts (0xc200000 + 4096 * c) 4 ≡ true
 unfolding is_listed place_of word_at

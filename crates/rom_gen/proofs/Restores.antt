@@ -12,8 +12,7 @@ use Rattle.std.proofs.lemmas.List.Sums.{fails_before_first}
 use Rattle.rv_decode.specs.declared.Insn.{Insn}
 use Rattle.csr_file.specs.declared.registers.DebugRegs.{DebugRegs}
 use Rattle.clint.specs.State.{hart_count}
-use Rattle.board_bus.specs.Board as board
-use Rattle.board_bus.specs.Board.{BoardState, reset_board}
+use Rattle.board_bus.specs.Board.{BoardState, IsFit as IsFitBoard, reset_board}
 use Rattle.hart_step.specs.declared.hart.Hart.{Hart}
 use Rattle.hart_step.specs.Fit.{IsKept}
 use Rattle.hart_step.specs.Harts.{CoreState, is_in_debug, reset_hart, hart_of}
@@ -41,41 +40,41 @@ use Rattle.csr_file.specs.declared.registers.Registers.{Registers}
 
 -- ---- where the parts stand
 
-record Parts (t : BoardState) (ts : List Hart) (rom : List ℕ) : Type 0 where
+record Parts (board : BoardState) (harts : List Hart) (rom : List ℕ) : Type 0 where
   small : length rom ≤ most_rom
-  dispatch : StandAt (dispatch_bytes (addresses (start_places t ts))) 0 rom
-  device : StandAt (device_bytes t (rom_base + first_place t ts)) (device_place ts) rom
-  blocks : (i : ℕ) (d : Hart) → i < length ts → StandAt (hart_bytes (get_or ts i d)) (slice_index (block_places (first_place t ts) ts) i) rom
+  dispatch : StandAt (dispatch_bytes (addresses (start_places board harts))) 0 rom
+  device : StandAt (device_bytes board (rom_base + first_place board harts)) (device_place harts) rom
+  blocks : (i : ℕ) (d : Hart) → i < length harts → StandAt (hart_bytes (get_or harts i d)) (slice_index (block_places (first_place board harts) harts) i) rom
 
-pub places_length : (t : BoardState) (ts : List Hart) → length (start_places t ts) ≡ length ts
-places_length t ts = length-set (block_places (first_place t ts) ts) 0 (device_place ts) ∙ starts_length (first_place t ts) ts
+pub places_length : (board : BoardState) (harts : List Hart) → length (start_places board harts) ≡ length harts
+places_length board harts = length-set (block_places (first_place board harts) harts) 0 (device_place harts) ∙ starts_length (first_place board harts) harts
 
-pub addresses_length : (t : BoardState) (ts : List Hart) → length (addresses (start_places t ts)) ≡ length ts
-addresses_length t ts = length-map (start_places t ts) (λ place. rom_base + place) ∙ places_length t ts
+pub addresses_length : (board : BoardState) (harts : List Hart) → length (addresses (start_places board harts)) ≡ length harts
+addresses_length board harts = length-map (start_places board harts) (λ place. rom_base + place) ∙ places_length board harts
 
-dispatch_length : (t : BoardState) (ts : List Hart) → length (dispatch_bytes (addresses (start_places t ts))) ≡ device_place ts
+dispatch_length : (board : BoardState) (harts : List Hart) → length (dispatch_bytes (addresses (start_places board harts))) ≡ device_place harts
 unfolding dispatch_bytes
-dispatch_length t ts =
-    let starts : List ℕ = addresses (start_places t ts) in
-    omega (arith, length-append (code dispatch_insns) (table starts), code_length dispatch_insns, table_length starts, addresses_length t ts)
+dispatch_length board harts =
+    let starts : List ℕ = addresses (start_places board harts) in
+    omega (arith, length-append (code dispatch_insns) (table starts), code_length dispatch_insns, table_length starts, addresses_length board harts)
 
-parts : (t : BoardState) (ts : List Hart) → board.IsFit t → length ts ≤ 8 → Parts t ts (rom_bytes t ts)
-parts t ts fit few =
-    let first : ℕ = first_place t ts in
-    let a : List ℕ = dispatch_bytes (addresses (start_places t ts)) in
-    let d : List ℕ = device_bytes t (rom_base + first) in
-    let e : List ℕ = all_blocks ts in
+parts : (board : BoardState) (harts : List Hart) → IsFitBoard board → length harts ≤ 8 → Parts board harts (rom_bytes board harts)
+parts board harts fit few =
+    let first : ℕ = first_place board harts in
+    let a : List ℕ = dispatch_bytes (addresses (start_places board harts)) in
+    let d : List ℕ = device_bytes board (rom_base + first) in
+    let e : List ℕ = all_blocks harts in
     let rom : List ℕ = a ++ (d ++ e) in
-    let a_length : length a ≡ device_place ts = dispatch_length t ts in
-    let d_length : length d ≡ device_size t = device_length t (rom_base + first) in
+    let a_length : length a ≡ device_place harts = dispatch_length board harts in
+    let d_length : length d ≡ device_size board = device_length board (rom_base + first) in
     let whole : StandAt rom 0 rom = ([], sym (append-nil rom)) in
-    let behind_a : StandAt (d ++ e) (device_place ts) rom = subst (λ q. StandAt (d ++ e) q rom) (zero-add (length a) ∙ a_length) (stand_second a (d ++ e) 0 rom whole) in
-    let behind_d : StandAt e first rom = subst (λ q. StandAt e q rom) (ap (λ n. device_place ts + n) d_length) (stand_second d e (device_place ts) rom behind_a) in
+    let behind_a : StandAt (d ++ e) (device_place harts) rom = subst (λ q. StandAt (d ++ e) q rom) (zero-add (length a) ∙ a_length) (stand_second a (d ++ e) 0 rom whole) in
+    let behind_d : StandAt e first rom = subst (λ q. StandAt e q rom) (ap (λ n. device_place harts + n) d_length) (stand_second d e (device_place harts) rom behind_a) in
     record {
-      small = omega (arith, length-append a (d ++ e), length-append d e, a_length, d_length, device_small t fit, blocks_length ts, few);
+      small = omega (arith, length-append a (d ++ e), length-append d e, a_length, d_length, device_small board fit, blocks_length harts, few);
       dispatch = stand_first a (d ++ e) 0 rom whole;
-      device = stand_first d e (device_place ts) rom behind_a;
-      blocks = λ i x within. block_stands ts first i x rom within behind_d;
+      device = stand_first d e (device_place harts) rom behind_a;
+      blocks = λ i x within. block_stands harts first i x rom within behind_d;
     }
 
 -- where a hart goes on
@@ -83,55 +82,55 @@ record IsStart (place : ℕ) : Type 0 where
   aligned : place % 8 ≡ 0
   near : place ≤ most_rom
 
-start_is_place : (t : BoardState) (ts : List Hart) (h : ℕ) → board.IsFit t → length ts ≤ 8 → h < length ts → IsStart (slice_index (start_places t ts) h)
-start_is_place t ts h fit few within =
-    let first : ℕ = first_place t ts in
+start_is_place : (board : BoardState) (harts : List Hart) (h : ℕ) → IsFitBoard board → length harts ≤ 8 → h < length harts → IsStart (slice_index (start_places board harts) h)
+start_is_place board harts h fit few within =
+    let first : ℕ = first_place board harts in
     ⊎_elim
-    (λ e. let is : slice_index (start_places t ts) h ≡ device_place ts = ap (slice_index (start_places t ts)) e ∙ get_or-set_same (block_places first ts) 0 (device_place ts) 0 (omega (arith, starts_length first ts)) in record { aligned = omega arith; near = omega arith })
-    (λ a. let is : slice_index (start_places t ts) h ≡ slice_index (block_places first ts) h = get_or-set_other (block_places first ts) 0 h (device_place ts) 0 a in
-    record { aligned = ap (λ q. q % 8) is ∙ start_even ts first h (omega (arith, device_even t)) within; near = omega (arith, start_small ts first h within, device_small t fit) })
+    (λ e. let is : slice_index (start_places board harts) h ≡ device_place harts = ap (slice_index (start_places board harts)) e ∙ get_or-set_same (block_places first harts) 0 (device_place harts) 0 (omega (arith, starts_length first harts)) in record { aligned = omega arith; near = omega arith })
+    (λ a. let is : slice_index (start_places board harts) h ≡ slice_index (block_places first harts) h = get_or-set_other (block_places first harts) 0 h (device_place harts) 0 a in
+    record { aligned = ap (λ q. q % 8) is ∙ start_even harts first h (omega (arith, device_even board)) within; near = omega (arith, start_small harts first h within, device_small board fit) })
     (cases_eq h 0)
 
 pub address_at : (places : List ℕ) (h d : ℕ) → h < length places → get_or (addresses places) h d ≡ rom_base + slice_index places h
 address_at places h d within = get_or-map (λ place. rom_base + place) places h 0 d (omega (arith, length-map places (λ place. rom_base + place)))
 
-addresses_fit : (t : BoardState) (ts : List Hart) → board.IsFit t → length ts ≤ 8 → All (λ v. v < 2 ^ 64) (addresses (start_places t ts))
-addresses_fit t ts fit few i d within =
-    let inside : i < length ts = omega (arith, addresses_length t ts) in
-    let place : IsStart (slice_index (start_places t ts) i) = start_is_place t ts i fit few inside in
-    omega (arith, address_at (start_places t ts) i d (omega (arith, places_length t ts)), place.near)
+addresses_fit : (board : BoardState) (harts : List Hart) → IsFitBoard board → length harts ≤ 8 → All (λ v. v < 2 ^ 64) (addresses (start_places board harts))
+addresses_fit board harts fit few i d within =
+    let inside : i < length harts = omega (arith, addresses_length board harts) in
+    let place : IsStart (slice_index (start_places board harts) i) = start_is_place board harts i fit few inside in
+    omega (arith, address_at (start_places board harts) i d (omega (arith, places_length board harts)), place.near)
 
 -- ---- the block of a hart
 
 abbrev pub hart_steps : Hart → ℕ
-hart_steps t = word_count (hart_items t (pool_place (hart_items t))) + 1
+hart_steps target = word_count (hart_items target (pool_place (hart_items target))) + 1
 
-pub hart_part : (b : Booting) (h block : ℕ) (t : Hart) → IsTarget t → HasCome b h block (debug_registers t.csrs.hart) → StandAt (hart_bytes t) block b.core.rom → Frees h (hart_steps t) b (freed h (hart_steps t) (unreserved_hart t) b.board b)
+pub hart_part : (b : Booting) (h block : ℕ) (target : Hart) → IsTarget target → HasCome b h block (debug_registers target.csrs.hart) → StandAt (hart_bytes target) block b.core.rom → Frees h (hart_steps target) b (freed h (hart_steps target) (unreserved_hart target) b.board b)
 unfolding hart_bytes
-hart_part b h block t target come there =
-    let k : ℕ = pool_place (hart_items t) in
-    let stands : Laid (hart_items t) Insn.Dret (hart_values t) block b.core.rom = laid (hart_items t) Insn.Dret (hart_values t) block b.core.rom (hart_fixed t) there in
-    let n : ℕ = word_count (hart_items t 0) in
-    let short : n ≤ 165 = hart_short t in
-    let few : length (hart_values t) ≤ 55 = hart_few t in
-    hart_block want_layout b h block k t target come (record { aligned = come.aligned; even = omega arith; room = omega arith; there = stands.pools }) stands.codes
+hart_part b h block target fit come there =
+    let k : ℕ = pool_place (hart_items target) in
+    let stands : Laid (hart_items target) Insn.Dret (hart_values target) block b.core.rom = laid (hart_items target) Insn.Dret (hart_values target) block b.core.rom (hart_fixed target) there in
+    let n : ℕ = word_count (hart_items target 0) in
+    let short : n ≤ 165 = hart_short target in
+    let few : length (hart_values target) ≤ 55 = hart_few target in
+    hart_block want_layout b h block k target fit come (record { aligned = come.aligned; even = omega arith; room = omega arith; there = stands.pools }) stands.codes
 
 -- ---- the block of the devices
 
 abbrev pub device_steps : BoardState → ℕ → ℕ
-device_steps t next = word_count (device_items (pool_place (λ k. device_items k t (rom_base + next))) t (rom_base + next)) + 1
+device_steps board next = word_count (device_items (pool_place (λ k. device_items k board (rom_base + next))) board (rom_base + next)) + 1
 
-pub device_part : (b : Booting) (h block next : ℕ) (t : BoardState) (csrs : Registers) → board.IsFit t → length b.core.harts ≡ hart_count t.clint → b.board ≡ reset_board (hart_count t.clint) → NoneReserves b.core.harts → HasCome b h block csrs → next % 8 ≡ 0 → next ≤ most_rom → StandAt (device_bytes t (rom_base + next)) block b.core.rom →
-    (hart : Hart) × (Leads h (device_steps t next) b (moved h (device_steps t next) hart t b)) × HasCome (moved h (device_steps t next) hart t b) h next csrs
+pub device_part : (b : Booting) (h block next : ℕ) (board : BoardState) (csrs : Registers) → IsFitBoard board → length b.core.harts ≡ hart_count board.clint → b.board ≡ reset_board (hart_count board.clint) → NoneReserves b.core.harts → HasCome b h block csrs → next % 8 ≡ 0 → next ≤ most_rom → StandAt (device_bytes board (rom_base + next)) block b.core.rom →
+    (hart : Hart) × (Leads h (device_steps board next) b (moved h (device_steps board next) hart board b)) × HasCome (moved h (device_steps board next) hart board b) h next csrs
 unfolding device_bytes device_size
-device_part b h block next t csrs fit count fresh free come even within there =
-    let items : ℕ → List Spelling = λ k. device_items k t (rom_base + next) in
+device_part b h block next board csrs fit count fresh free come even within there =
+    let items : ℕ → List Spelling = λ k. device_items k board (rom_base + next) in
     let k : ℕ = pool_place items in
-    let stands : Laid items (Insn.Jalr 0 1 (pos 0)) (device_values t) block b.core.rom = laid items (Insn.Jalr 0 1 (pos 0)) (device_values t) block b.core.rom (device_fixed t (rom_base + next)) there in
-    let n : ℕ = word_count (device_items 0 t (rom_base + next)) in
-    let size : device_size t ≤ 1616 = device_small t fit in
-    let same : n ≡ word_count (device_items 0 t 0) = device_count t (rom_base + next) in
-    device_block b h block k next t csrs fit count fresh free come even within (record { aligned = come.aligned; even = omega arith; room = omega arith; there = stands.pools }) stands.codes
+    let stands : Laid items (Insn.Jalr 0 1 (pos 0)) (device_values board) block b.core.rom = laid items (Insn.Jalr 0 1 (pos 0)) (device_values board) block b.core.rom (device_fixed board (rom_base + next)) there in
+    let n : ℕ = word_count (device_items 0 board (rom_base + next)) in
+    let size : device_size board ≤ 1616 = device_small board fit in
+    let same : n ≡ word_count (device_items 0 board 0) = device_count board (rom_base + next) in
+    device_block b h block k next board csrs fit count fresh free come even within (record { aligned = come.aligned; even = omega arith; room = omega arith; there = stands.pools }) stands.codes
 
 -- ---- harts in debug mode
 
@@ -170,167 +169,167 @@ all_out harts running i d within =
 -- ---- the whole
 
 abbrev pub steps_of : BoardState → List Hart → ℕ → ℕ
-steps_of t ts zero = 6 + device_steps t (first_place t ts) + hart_steps (get_or ts 0 (reset_hart 0 0))
-steps_of t ts (suc h) = 6 + hart_steps (get_or ts (suc h) (reset_hart 0 0))
+steps_of board harts zero = 6 + device_steps board (first_place board harts) + hart_steps (get_or harts 0 (reset_hart 0 0))
+steps_of board harts (suc h) = 6 + hart_steps (get_or harts (suc h) (reset_hart 0 0))
 
 abbrev pub boards_of : BoardState → ℕ → ℕ → BoardState
-boards_of t n zero = reset_board n
-boards_of t n (suc h) = t
+boards_of board n zero = reset_board n
+boards_of board n (suc h) = board
 
-abbrev pub target_of : List Hart → ℕ → Hart
-target_of ts h = unreserved_hart (get_or ts h (reset_hart 0 0))
+abbrev pub wanted_of : List Hart → ℕ → Hart
+wanted_of harts h = unreserved_hart (get_or harts h (reset_hart 0 0))
 
 abbrev start_of : BoardState → CoreState → ℕ → Booting
-start_of t core h = record {
-  core = record { harts = half (target_of core.harts) (debug_harts (length core.harts)) h; ram = core.ram; rom = rom_bytes t core.harts };
-  board = boards_of t (length core.harts) h;
+start_of board core h = record {
+  core = record { harts = half (wanted_of core.harts) (debug_harts (length core.harts)) h; ram = core.ram; rom = rom_bytes board core.harts };
+  board = boards_of board (length core.harts) h;
   console = [];
-  steps = total (steps_of t core.harts) h;
+  steps = total (steps_of board core.harts) h;
 }
 
-begun_hart : (t : BoardState) (core : CoreState) (h : ℕ) → h < length core.harts → hart_of (start_of t core h).core h ≡ reset_debug_hart h
-begun_hart t core h within =
-    half_later (target_of core.harts) (debug_harts (length core.harts)) h h (reset_hart 0 0) (omega arith) ∙ fresh_at (length core.harts) h (reset_hart 0 0) within
+begun_hart : (board : BoardState) (core : CoreState) (h : ℕ) → h < length core.harts → hart_of (start_of board core h).core h ≡ reset_debug_hart h
+begun_hart board core h within =
+    half_later (wanted_of core.harts) (debug_harts (length core.harts)) h h (reset_hart 0 0) (omega arith) ∙ fresh_at (length core.harts) h (reset_hart 0 0) within
 
 number_is : (h : ℕ) → (debug_registers h).hart ≡ h
 unfolding reset_registers
 number_is h = refl
 
-begun : (t : BoardState) (core : CoreState) (h : ℕ) → length (rom_bytes t core.harts) ≤ most_rom → h < length core.harts → HasBegun (start_of t core h) h
-begun t core h small within =
+begun : (board : BoardState) (core : CoreState) (h : ℕ) → length (rom_bytes board core.harts) ≤ most_rom → h < length core.harts → HasBegun (start_of board core h) h
+begun board core h small within =
     let fresh : List Hart = debug_harts (length core.harts) in
-    let here : hart_of (start_of t core h).core h ≡ reset_debug_hart h = begun_hart t core h within in
-    let stands : Stands (memory_of (start_of t core h).core) (reset_debug_hart h) 0 = record { debugs = refl; at = omega arith; nought = refl; count = refl; small = small } in
+    let here : hart_of (start_of board core h).core h ≡ reset_debug_hart h = begun_hart board core h within in
+    let stands : Stands (memory_of (start_of board core h).core) (reset_debug_hart h) 0 = record { debugs = refl; at = omega arith; nought = refl; count = refl; small = small } in
     record {
-      inside = omega (arith, half_length (target_of core.harts) fresh h, fresh_length (length core.harts));
-      stands = subst (λ x. Stands (memory_of (start_of t core h).core) x 0) (sym here) stands;
+      inside = omega (arith, half_length (wanted_of core.harts) fresh h, fresh_length (length core.harts));
+      stands = subst (λ x. Stands (memory_of (start_of board core h).core) x 0) (sym here) stands;
       number = ap (λ (x : Hart). x.csrs.hart) here ∙ number_is h;
     }
 
 -- hart h has executed the dispatch
-record Arrived (t : BoardState) (core : CoreState) (h place : ℕ) (csrs : Registers) : Type 0 where
+record Arrived (board : BoardState) (core : CoreState) (h place : ℕ) (csrs : Registers) : Type 0 where
   next : Hart
-  leads : Leads h 6 (start_of t core h) (becomes h 6 next (start_of t core h))
-  come : HasCome (becomes h 6 next (start_of t core h)) h place csrs
+  leads : Leads h 6 (start_of board core h) (becomes h 6 next (start_of board core h))
+  come : HasCome (becomes h 6 next (start_of board core h)) h place csrs
 
-arrives : (t : BoardState) (core : CoreState) (h : ℕ) → board.IsFit t → IsKept core → h < length core.harts → Arrived t core h (slice_index (start_places t core.harts) h) (debug_registers h)
-arrives t core h fit kept within =
-    let ts : List Hart = core.harts in
-    let b : Booting = start_of t core h in
-    let ps : Parts t ts (rom_bytes t ts) = parts t ts fit kept.most in
-    let starts : List ℕ = addresses (start_places t ts) in
-    let start : IsStart (slice_index (start_places t ts) h) = start_is_place t ts h fit kept.most within in
-    let begins : HasBegun b h = begun t core h ps.small within in
-    let here : hart_of b.core h ≡ reset_debug_hart h = begun_hart t core h within in
-    let at : slice_index starts h ≡ rom_base + slice_index (start_places t ts) h = address_at (start_places t ts) h 0 (omega (arith, places_length t ts)) in
+arrives : (board : BoardState) (core : CoreState) (h : ℕ) → IsFitBoard board → IsKept core → h < length core.harts → Arrived board core h (slice_index (start_places board core.harts) h) (debug_registers h)
+arrives board core h fit kept within =
+    let harts : List Hart = core.harts in
+    let b : Booting = start_of board core h in
+    let ps : Parts board harts (rom_bytes board harts) = parts board harts fit kept.most in
+    let starts : List ℕ = addresses (start_places board harts) in
+    let start : IsStart (slice_index (start_places board harts) h) = start_is_place board harts h fit kept.most within in
+    let begins : HasBegun b h = begun board core h ps.small within in
+    let here : hart_of b.core h ≡ reset_debug_hart h = begun_hart board core h within in
+    let at : slice_index starts h ≡ rom_base + slice_index (start_places board harts) h = address_at (start_places board harts) h 0 (omega (arith, places_length board harts)) in
     record {
-      next = sent_on h (rom_base + slice_index (start_places t ts) h) (hart_of b.core h);
+      next = sent_on h (rom_base + slice_index (start_places board harts) h) (hart_of b.core h);
       leads = subst (λ v. Leads h 6 b (becomes h 6 (sent_on h v (hart_of b.core h)) b)) at
-          (dispatches starts (omega (arith, addresses_length t ts, kept.most)) (addresses_fit t ts fit kept.most) b h (omega (arith, addresses_length t ts)) begins ps.dispatch);
-      come = sent_comes b h (slice_index (start_places t ts) h) (debug_registers h) begins start.aligned start.near (ap (λ (x : Hart). x.csrs) here) (ap (λ (x : Hart). x.reservation) here);
+          (dispatches starts (omega (arith, addresses_length board harts, kept.most)) (addresses_fit board harts fit kept.most) b h (omega (arith, addresses_length board harts)) begins ps.dispatch);
+      come = sent_comes b h (slice_index (start_places board harts) h) (debug_registers h) begins start.aligned start.near (ap (λ (x : Hart). x.csrs) here) (ap (λ (x : Hart). x.reservation) here);
     }
 
 -- hart h does its part
-each : (t : BoardState) (core : CoreState) (h : ℕ) → board.IsFit t → IsKept core → hart_count t.clint ≡ length core.harts → ((i : ℕ) → i < length core.harts → IsTarget (get_or core.harts i (reset_hart 0 0))) → h < length core.harts →
-    Frees h (steps_of t core.harts h) (start_of t core h) (at_hart (target_of core.harts) (debug_harts (length core.harts)) core.ram (rom_bytes t core.harts) (boards_of t (length core.harts)) (steps_of t core.harts) (suc h))
+each : (board : BoardState) (core : CoreState) (h : ℕ) → IsFitBoard board → IsKept core → hart_count board.clint ≡ length core.harts → ((i : ℕ) → i < length core.harts → IsTarget (get_or core.harts i (reset_hart 0 0))) → h < length core.harts →
+    Frees h (steps_of board core.harts h) (start_of board core h) (at_hart (wanted_of core.harts) (debug_harts (length core.harts)) core.ram (rom_bytes board core.harts) (boards_of board (length core.harts)) (steps_of board core.harts) (suc h))
 unfolding half
-each t core zero fit kept count targets within =
-    let ts : List Hart = core.harts in
-    let n : ℕ = length ts in
-    let rom : List ℕ = rom_bytes t ts in
-    let ps : Parts t ts rom = parts t ts fit kept.most in
-    let first : ℕ = first_place t ts in
+each board core zero fit kept count targets within =
+    let harts : List Hart = core.harts in
+    let n : ℕ = length harts in
+    let rom : List ℕ = rom_bytes board harts in
+    let ps : Parts board harts rom = parts board harts fit kept.most in
+    let first : ℕ = first_place board harts in
     let most : n ≤ 8 = kept.most in
-    let owner : Hart = get_or ts 0 (reset_hart 0 0) in
-    let b : Booting = start_of t core 0 in
-    let arrived : Arrived t core 0 (slice_index (start_places t ts) 0) (debug_registers 0) = arrives t core 0 fit kept within in
+    let owner : Hart = get_or harts 0 (reset_hart 0 0) in
+    let b : Booting = start_of board core 0 in
+    let arrived : Arrived board core 0 (slice_index (start_places board harts) 0) (debug_registers 0) = arrives board core 0 fit kept within in
     let next : Hart = arrived.next in
     let number : owner.csrs.hart ≡ 0 = kept.numbers 0 within in
     let b1 : Booting = becomes 0 6 next b in
-    let at : slice_index (start_places t ts) 0 ≡ device_place ts = get_or-set_same (block_places first ts) 0 (device_place ts) 0 (omega (arith, starts_length first ts)) in
-    let come1 : HasCome b1 0 (device_place ts) (debug_registers 0) = subst (λ p. HasCome b1 0 p (debug_registers 0)) at arrived.come in
+    let at : slice_index (start_places board harts) 0 ≡ device_place harts = get_or-set_same (block_places first harts) 0 (device_place harts) 0 (omega (arith, starts_length first harts)) in
+    let come1 : HasCome b1 0 (device_place harts) (debug_registers 0) = subst (λ p. HasCome b1 0 p (debug_registers 0)) at arrived.come in
     let none : next.reservation ≡ None = ap (λ (x : Hart). x.reservation) (sym (get_or-set_same (debug_harts n) 0 next (reset_hart 0 0) (omega (arith, fresh_length n)))) ∙ come1.reservation in
     let free1 : All (λ (x : Hart). x.reservation ≡ None) b1.core.harts = All-set (λ (x : Hart). x.reservation ≡ None) (debug_harts n) 0 next none (fresh_free n) in
-    let harts1 : length b1.core.harts ≡ hart_count t.clint = length-set (debug_harts n) 0 next ∙ fresh_length n ∙ sym count in
-    let devices = device_part b1 0 (device_place ts) first t (debug_registers 0) fit harts1 (ap reset_board (sym count)) free1 come1 (omega (arith, device_even t)) (omega (arith, device_small t fit)) ps.device in
-    let m : ℕ = device_steps t first in
+    let harts1 : length b1.core.harts ≡ hart_count board.clint = length-set (debug_harts n) 0 next ∙ fresh_length n ∙ sym count in
+    let devices = device_part b1 0 (device_place harts) first board (debug_registers 0) fit harts1 (ap reset_board (sym count)) free1 come1 (omega (arith, device_even board)) (omega (arith, device_small board fit)) ps.device in
+    let m : ℕ = device_steps board first in
     let w : ℕ = hart_steps owner in
     let second : Hart = devices.0 in
-    let b2 : Booting = moved 0 m second t b1 in
-    let stands : StandAt (hart_bytes owner) first rom = subst (λ p. StandAt (hart_bytes owner) p rom) (first_start ts first within) (ps.blocks 0 (reset_hart 0 0) within) in
+    let b2 : Booting = moved 0 m second board b1 in
+    let stands : StandAt (hart_bytes owner) first rom = subst (λ p. StandAt (hart_bytes owner) p rom) (first_start harts first within) (ps.blocks 0 (reset_hart 0 0) within) in
     let come2 : HasCome b2 0 first (debug_registers owner.csrs.hart) = subst (λ k. HasCome b2 0 first (debug_registers k)) (sym number) devices.2 in
-    let frees : Frees 0 w b2 (freed 0 w (unreserved_hart owner) t b2) = hart_part b2 0 first owner (targets 0 within) come2 stands in
-    let same : freed 0 w (unreserved_hart owner) t b2 ≡ freed 0 (6 + m + w) (unreserved_hart owner) t b =
-    freed_moved 0 m w second (unreserved_hart owner) t t b1
-    ∙ freed_moved 0 6 (m + w) next (unreserved_hart owner) (reset_board n) t b
-    ∙ ap (λ k. freed 0 k (unreserved_hart owner) t b) (omega arith) in
+    let frees : Frees 0 w b2 (freed 0 w (unreserved_hart owner) board b2) = hart_part b2 0 first owner (targets 0 within) come2 stands in
+    let same : freed 0 w (unreserved_hart owner) board b2 ≡ freed 0 (6 + m + w) (unreserved_hart owner) board b =
+    freed_moved 0 m w second (unreserved_hart owner) board board b1
+    ∙ freed_moved 0 6 (m + w) next (unreserved_hart owner) (reset_board n) board b
+    ∙ ap (λ k. freed 0 k (unreserved_hart owner) board b) (omega arith) in
     subst (λ x. Frees 0 (6 + m + w) b x) same (frees_join 0 (6 + m) w b b2 _ (leads_join 0 6 m b b1 b2 arrived.leads devices.1) frees)
-each t core (suc g) fit kept count targets within =
+each board core (suc g) fit kept count targets within =
     let h : ℕ = suc g in
-    let ts : List Hart = core.harts in
-    let n : ℕ = length ts in
-    let rom : List ℕ = rom_bytes t ts in
-    let ps : Parts t ts rom = parts t ts fit kept.most in
-    let first : ℕ = first_place t ts in
-    let owner : Hart = get_or ts h (reset_hart 0 0) in
-    let b : Booting = start_of t core h in
-    let arrived : Arrived t core h (slice_index (start_places t ts) h) (debug_registers h) = arrives t core h fit kept within in
+    let harts : List Hart = core.harts in
+    let n : ℕ = length harts in
+    let rom : List ℕ = rom_bytes board harts in
+    let ps : Parts board harts rom = parts board harts fit kept.most in
+    let first : ℕ = first_place board harts in
+    let owner : Hart = get_or harts h (reset_hart 0 0) in
+    let b : Booting = start_of board core h in
+    let arrived : Arrived board core h (slice_index (start_places board harts) h) (debug_registers h) = arrives board core h fit kept within in
     let next : Hart = arrived.next in
     let number : owner.csrs.hart ≡ h = kept.numbers h within in
     let b1 : Booting = becomes h 6 next b in
-    let at : slice_index (start_places t ts) h ≡ slice_index (block_places first ts) h = get_or-set_other (block_places first ts) 0 h (device_place ts) 0 (omega arith) in
-    let come1 : HasCome b1 h (slice_index (block_places first ts) h) (debug_registers owner.csrs.hart) = subst (λ k. HasCome b1 h (slice_index (block_places first ts) h) (debug_registers k)) (sym number) (subst (λ p. HasCome b1 h p (debug_registers h)) at arrived.come) in
+    let at : slice_index (start_places board harts) h ≡ slice_index (block_places first harts) h = get_or-set_other (block_places first harts) 0 h (device_place harts) 0 (omega arith) in
+    let come1 : HasCome b1 h (slice_index (block_places first harts) h) (debug_registers owner.csrs.hart) = subst (λ k. HasCome b1 h (slice_index (block_places first harts) h) (debug_registers k)) (sym number) (subst (λ p. HasCome b1 h p (debug_registers h)) at arrived.come) in
     let w : ℕ = hart_steps owner in
-    let frees : Frees h w b1 (freed h w (unreserved_hart owner) t b1) = hart_part b1 h (slice_index (block_places first ts) h) owner (targets h within) come1 (ps.blocks h (reset_hart 0 0) within) in
-    let same : freed h w (unreserved_hart owner) t b1 ≡ freed h (6 + w) (unreserved_hart owner) t b = freed_moved h 6 w next (unreserved_hart owner) t t b in
+    let frees : Frees h w b1 (freed h w (unreserved_hart owner) board b1) = hart_part b1 h (slice_index (block_places first harts) h) owner (targets h within) come1 (ps.blocks h (reset_hart 0 0) within) in
+    let same : freed h w (unreserved_hart owner) board b1 ≡ freed h (6 + w) (unreserved_hart owner) board b = freed_moved h 6 w next (unreserved_hart owner) board board b in
     subst (λ x. Frees h (6 + w) b x) same (frees_join h 6 w b b1 _ arrived.leads frees)
 
-few_steps : (t : BoardState) (ts : List Hart) (h : ℕ) → board.IsFit t → steps_of t ts h ≤ most_steps
-few_steps t ts zero fit =
-    let first : ℕ = first_place t ts in
-    let owner : Hart = get_or ts 0 (reset_hart 0 0) in
-    omega (arith, device_fixed t (rom_base + first) (pool_place (λ k. device_items k t (rom_base + first))), device_words t (rom_base + first) fit, hart_fixed owner (pool_place (hart_items owner)), hart_short owner)
-few_steps t ts (suc h) fit =
-    let owner : Hart = get_or ts (suc h) (reset_hart 0 0) in
+few_steps : (board : BoardState) (harts : List Hart) (h : ℕ) → IsFitBoard board → steps_of board harts h ≤ most_steps
+few_steps board harts zero fit =
+    let first : ℕ = first_place board harts in
+    let owner : Hart = get_or harts 0 (reset_hart 0 0) in
+    omega (arith, device_fixed board (rom_base + first) (pool_place (λ k. device_items k board (rom_base + first))), device_words board (rom_base + first) fit, hart_fixed owner (pool_place (hart_items owner)), hart_short owner)
+few_steps board harts (suc h) fit =
+    let owner : Hart = get_or harts (suc h) (reset_hart 0 0) in
     omega (arith, hart_fixed owner (pool_place (hart_items owner)), hart_short owner)
 
-last_board : (t : BoardState) (k n : ℕ) → 0 < n → boards_of t k n ≡ t
-last_board t k zero some = absurd (omega arith)
-last_board t k (suc n) some = refl
+last_board : (board : BoardState) (k n : ℕ) → 0 < n → boards_of board k n ≡ board
+last_board board k zero some = absurd (omega arith)
+last_board board k (suc n) some = refl
 
 pub restores : (m : MachineState) → IsFit m → is_running m ≡ true →
     (length (rom_bytes m.board m.core.harts) ≤ most_rom)
     × (boot_harts m.shape.harts (begins_boot (debug_machine m.shape m.taken m.core.ram (rom_bytes m.board m.core.harts))) ≡ record { left = record { core = unreserved m.core; board = m.board; console = []; steps = total (steps_of m.board m.core.harts) m.shape.harts }; fault = None })
 unfolding half
 restores m fit running =
-    let t : BoardState = m.board in
+    let board : BoardState = m.board in
     let core : CoreState = m.core in
-    let ts : List Hart = core.harts in
-    let n : ℕ = length ts in
+    let harts : List Hart = core.harts in
+    let n : ℕ = length harts in
     let kept : IsKept core = fit.core.kept in
-    let t_fit : board.IsFit t = fit.board in
-    let rom : List ℕ = rom_bytes t ts in
-    let target : ℕ → Hart = target_of ts in
+    let board_fit : IsFitBoard board = fit.board in
+    let rom : List ℕ = rom_bytes board harts in
+    let wanted : ℕ → Hart = wanted_of harts in
     let fresh : List Hart = debug_harts n in
-    let boards : ℕ → BoardState = boards_of t n in
-    let steps : ℕ → ℕ = steps_of t ts in
-    let count : hart_count t.clint ≡ n = fit.shape.devices ∙ sym fit.shape.harts in
+    let boards : ℕ → BoardState = boards_of board n in
+    let steps : ℕ → ℕ = steps_of board harts in
+    let count : hart_count board.clint ≡ n = fit.shape.devices ∙ sym fit.shape.harts in
     let some : 0 < n = kept.some in
-    let targets : (i : ℕ) → i < n → IsTarget (get_or ts i (reset_hart 0 0)) = λ i within. is_target (get_or ts i (reset_hart 0 0)) (kept.harts i (reset_hart 0 0) within) (not_some _ (all_out ts running i (reset_hart 0 0) within)) in
+    let targets : (i : ℕ) → i < n → IsTarget (get_or harts i (reset_hart 0 0)) = λ i within. is_target (get_or harts i (reset_hart 0 0)) (kept.harts i (reset_hart 0 0) within) (not_some _ (all_out harts running i (reset_hart 0 0) within)) in
     let in_debug : (harts : List Hart) (i : ℕ) → i < length fresh → is_in_debug (get_or fresh i (reset_hart 0 0)) ≡ true = λ harts i within. ap is_in_debug (fresh_at n i (reset_hart 0 0) (omega (arith, fresh_length n))) in
-    let frees = all_free target fresh core.ram rom boards steps (in_debug fresh) (λ h within. few_steps t ts h t_fit) (λ h within. each t core h t_fit kept count targets (omega (arith, fresh_length n))) n (omega (arith, fresh_length n)) (omega (arith, fresh_length n)) in
+    let frees = all_free wanted fresh core.ram rom boards steps (in_debug fresh) (λ h within. few_steps board harts h board_fit) (λ h within. each board core h board_fit kept count targets (omega (arith, fresh_length n))) n (omega (arith, fresh_length n)) (omega (arith, fresh_length n)) in
     let begins : rom_while fresh rom ≡ rom = ap (λ c. cond c rom []) (list_any_at is_in_debug fresh 0 (reset_hart 0 0) (omega (arith, fresh_length n)) (in_debug fresh 0 (omega (arith, fresh_length n)))) in
-    let done : half target fresh n ≡ map unreserved_hart ts = same_lists _ _ (half_length target fresh n ∙ fresh_length n ∙ sym (length-map ts unreserved_hart)) (λ i d within. half_done target fresh n i d (omega (arith, half_length target fresh n, fresh_length n)) (omega (arith, fresh_length n)) ∙ sym (get_or-map unreserved_hart ts i (reset_hart 0 0) d (omega (arith, half_length target fresh n, fresh_length n)))) in
-    let free : All (λ x. is_in_debug x ≡ false) ts = λ i d within. all_out ts running i d within in
-    let all_free_after : All (λ x. is_in_debug x ≡ false) (map unreserved_hart ts) = λ i d within. ap is_in_debug (get_or-map unreserved_hart ts i (reset_hart 0 0) d (omega (arith, length-map ts unreserved_hart))) ∙ all_out ts running i (reset_hart 0 0) (omega (arith, length-map ts unreserved_hart)) in
-    let ends : rom_while (half target fresh n) rom ≡ core.rom =
-    ap (λ hs. rom_while hs rom) done ∙ ap (λ c. cond c rom []) (list_any_none is_in_debug (map unreserved_hart ts) all_free_after) ∙ sym (kept.closed (list_any_none is_in_debug ts free)) in
-    let last : boards n ≡ t = last_board t n n some in (
-      (parts t ts t_fit kept.most).small,
-      subst (λ k. boot_harts k (record { core = debug_core k core.ram rom; board = reset_board k; console = []; steps = 0 }) ≡ record { left = record { core = unreserved core; board = t; console = []; steps = total steps k }; fault = None }) fit.shape.harts
+    let done : half wanted fresh n ≡ map unreserved_hart harts = same_lists _ _ (half_length wanted fresh n ∙ fresh_length n ∙ sym (length-map harts unreserved_hart)) (λ i d within. half_done wanted fresh n i d (omega (arith, half_length wanted fresh n, fresh_length n)) (omega (arith, fresh_length n)) ∙ sym (get_or-map unreserved_hart harts i (reset_hart 0 0) d (omega (arith, half_length wanted fresh n, fresh_length n)))) in
+    let free : All (λ x. is_in_debug x ≡ false) harts = λ i d within. all_out harts running i d within in
+    let all_free_after : All (λ x. is_in_debug x ≡ false) (map unreserved_hart harts) = λ i d within. ap is_in_debug (get_or-map unreserved_hart harts i (reset_hart 0 0) d (omega (arith, length-map harts unreserved_hart))) ∙ all_out harts running i (reset_hart 0 0) (omega (arith, length-map harts unreserved_hart)) in
+    let ends : rom_while (half wanted fresh n) rom ≡ core.rom =
+    ap (λ hs. rom_while hs rom) done ∙ ap (λ c. cond c rom []) (list_any_none is_in_debug (map unreserved_hart harts) all_free_after) ∙ sym (kept.closed (list_any_none is_in_debug harts free)) in
+    let last : boards n ≡ board = last_board board n n some in (
+      (parts board harts board_fit kept.most).small,
+      subst (λ k. boot_harts k (record { core = debug_core k core.ram rom; board = reset_board k; console = []; steps = 0 }) ≡ record { left = record { core = unreserved core; board = board; console = []; steps = total steps k }; fault = None }) fit.shape.harts
           (ap (λ r. boot_harts n (record { core = record { harts = fresh; ram = core.ram; rom = r }; board = reset_board n; console = []; steps = 0 })) (sym begins)
           ∙ frees
-          ∙ ap (λ hs. record { left = record { core = record { harts = hs; ram = core.ram; rom = rom_while (half target fresh n) rom }; board = boards n; console = []; steps = total steps n }; fault = None }) done
-          ∙ ap (λ r. record { left = record { core = record { harts = map unreserved_hart ts; ram = core.ram; rom = r }; board = boards n; console = []; steps = total steps n }; fault = None }) ends
+          ∙ ap (λ hs. record { left = record { core = record { harts = hs; ram = core.ram; rom = rom_while (half wanted fresh n) rom }; board = boards n; console = []; steps = total steps n }; fault = None }) done
+          ∙ ap (λ r. record { left = record { core = record { harts = map unreserved_hart harts; ram = core.ram; rom = r }; board = boards n; console = []; steps = total steps n }; fault = None }) ends
           ∙ ap (λ x. record { left = record { core = unreserved core; board = x; console = []; steps = total steps n }; fault = None }) last),
     )

@@ -57,33 +57,33 @@ laid items last values block rom fixed there =
 
 -- ---- a hart's block
 
-pub hart_fixed : (t : Hart) (k : ℕ) → word_count (hart_items t k) ≡ word_count (hart_items t 0)
-hart_fixed t k =
-    let ws : List Want = first_wants t in
-    let l : Want = Reg 1 (slice_index t.x 1) in
+pub hart_fixed : (target : Hart) (k : ℕ) → word_count (hart_items target k) ≡ word_count (hart_items target 0)
+hart_fixed target k =
+    let ws : List Want = first_wants target in
+    let l : Want = Reg 1 (slice_index target.x 1) in
     let n : ℕ = 8 * length (all_values want_values ws) in
     omega (arith, count_append (placed want_items want_values k ws) (want_items (k + n) l), count_append (placed want_items want_values 0 ws) (want_items (0 + n) l), placed_fixed want_values want_sized k 0 ws, want_sized.fixed (k + n) l, want_sized.fixed (0 + n) l)
 
-slots_length : (t : Hart) → length (slot_wants t.csrs kept_slots) ≡ 22
+slots_length : (target : Hart) → length (slot_wants target.csrs kept_slots) ≡ 22
 unfolding slot_wants kept_slots
-slots_length t = refl
+slots_length target = refl
 
 numbered_length : (n i : ℕ) (xs : List ℕ) → length (numbered n i xs) ≡ n
 unfolding numbered
 numbered_length zero i xs = refl
 numbered_length (suc n) i xs = let e = numbered_length n (suc i) xs in omega arith
 
-wants_length : (t : Hart) → length (first_wants t) ≡ 54
-wants_length t =
-    let a : List Want = slot_wants t.csrs kept_slots in
-    omega (arith, length-append (controls t) (registers t), length-append a (Control csr_dcsr (dcsr_fixed + level t.mode) ∷ Control csr_dpc t.pc ∷ []), slots_length t, numbered_length 30 2 t.x)
+wants_length : (target : Hart) → length (first_wants target) ≡ 54
+wants_length target =
+    let a : List Want = slot_wants target.csrs kept_slots in
+    omega (arith, length-append (controls target) (registers target), length-append a (Control csr_dcsr (dcsr_fixed + level target.mode) ∷ Control csr_dpc target.pc ∷ []), slots_length target, numbered_length 30 2 target.x)
 
-pub hart_short : (t : Hart) → word_count (hart_items t 0) ≤ 165
-hart_short t =
-    let ws : List Want = first_wants t in
-    let l : Want = Reg 1 (slice_index t.x 1) in
+pub hart_short : (target : Hart) → word_count (hart_items target 0) ≤ 165
+hart_short target =
+    let ws : List Want = first_wants target in
+    let l : Want = Reg 1 (slice_index target.x 1) in
     let n : ℕ = 8 * length (all_values want_values ws) in
-    omega (arith, count_append (placed want_items want_values 0 ws) (want_items (0 + n) l), placed_short want_values want_sized 0 ws, want_sized.short (0 + n) l, wants_length t)
+    omega (arith, count_append (placed want_items want_values 0 ws) (want_items (0 + n) l), placed_short want_values want_sized 0 ws, want_sized.short (0 + n) l, wants_length target)
 
 some_values : (b c : Bool) (v : ℕ) → length (cond b [] (cond c [] (v ∷ []))) ≤ 1
 some_values true c v = omega arith
@@ -102,20 +102,20 @@ values_few : (ws : List Want) → length (all_values want_values ws) ≤ length 
 values_few [] = omega arith
 values_few (w ∷ ws) = omega (arith, length-append (want_values w) (all_values want_values ws), one_value w, values_few ws)
 
-pub hart_few : (t : Hart) → length (hart_values t) ≤ 55
-hart_few t = omega (arith, length-append (all_values want_values (first_wants t)) (want_values (Reg 1 (slice_index t.x 1))), values_few (first_wants t), one_value (Reg 1 (slice_index t.x 1)), wants_length t)
+pub hart_few : (target : Hart) → length (hart_values target) ≤ 55
+hart_few target = omega (arith, length-append (all_values want_values (first_wants target)) (want_values (Reg 1 (slice_index target.x 1))), values_few (first_wants target), one_value (Reg 1 (slice_index target.x 1)), wants_length target)
 
-pub hart_length : (t : Hart) → length (hart_bytes t) ≡ hart_size t
+pub hart_length : (target : Hart) → length (hart_bytes target) ≡ hart_size target
 unfolding hart_bytes hart_size
-hart_length t = block_length (hart_items t) Insn.Dret (hart_values t) (hart_fixed t)
+hart_length target = block_length (hart_items target) Insn.Dret (hart_values target) (hart_fixed target)
 
-pub hart_small : (t : Hart) → hart_size t ≤ 1112
+pub hart_small : (target : Hart) → hart_size target ≤ 1112
 unfolding hart_size
-hart_small t = omega (arith, hart_short t, hart_few t)
+hart_small target = omega (arith, hart_short target, hart_few target)
 
-pub hart_even : (t : Hart) → hart_size t % 8 ≡ 0
+pub hart_even : (target : Hart) → hart_size target % 8 ≡ 0
 unfolding hart_size
-hart_even t = let n : ℕ = word_count (hart_items t 0) in omega arith
+hart_even target = let n : ℕ = word_count (hart_items target 0) in omega arith
 
 -- ---- the block of the devices
 
@@ -143,17 +143,17 @@ deeds_fixed k k' (d ∷ ds) =
     let next' : ℕ = k' + 8 * length (deed_values d) in
     omega (arith, count_append (deed_items k d) (placed_deeds next ds), count_append (deed_items k' d) (placed_deeds next' ds), deed_fixed k d, deed_fixed k' d, deeds_fixed next next' ds)
 
-pub device_fixed : (t : BoardState) (next k : ℕ) → word_count (device_items k t next) ≡ word_count (device_items 0 t next)
-device_fixed t next k =
+pub device_fixed : (target : BoardState) (next k : ℕ) → word_count (device_items k target next) ≡ word_count (device_items 0 target next)
+device_fixed target next k =
     let last : List Spelling = record { item = Put 1 next; insns = far_insns next } ∷ [] in
-    omega (arith, count_append (placed_deeds k (device_deeds t)) last, count_append (placed_deeds 0 (device_deeds t)) last, deeds_fixed k 0 (device_deeds t))
+    omega (arith, count_append (placed_deeds k (device_deeds target)) last, count_append (placed_deeds 0 (device_deeds target)) last, deeds_fixed k 0 (device_deeds target))
 
-pub device_count : (t : BoardState) (next : ℕ) → word_count (device_items 0 t next) ≡ word_count (device_items 0 t 0)
-device_count t next = count_append (placed_deeds 0 (device_deeds t)) (record { item = Put 1 next; insns = far_insns next } ∷ []) ∙ sym (count_append (placed_deeds 0 (device_deeds t)) (record { item = Put 1 0; insns = far_insns 0 } ∷ []))
+pub device_count : (target : BoardState) (next : ℕ) → word_count (device_items 0 target next) ≡ word_count (device_items 0 target 0)
+device_count target next = count_append (placed_deeds 0 (device_deeds target)) (record { item = Put 1 next; insns = far_insns next } ∷ []) ∙ sym (count_append (placed_deeds 0 (device_deeds target)) (record { item = Put 1 0; insns = far_insns 0 } ∷ []))
 
-pub device_length : (t : BoardState) (next : ℕ) → length (device_bytes t next) ≡ device_size t
+pub device_length : (target : BoardState) (next : ℕ) → length (device_bytes target next) ≡ device_size target
 unfolding device_bytes device_size
-device_length t next = block_length (λ k. device_items k t next) (Insn.Jalr 0 1 (pos 0)) (device_values t) (device_fixed t next) ∙ ap (λ n. 4 * rounded (n + 1) + 8 * length (device_values t)) (device_count t next)
+device_length target next = block_length (λ k. device_items k target next) (Insn.Jalr 0 1 (pos 0)) (device_values target) (device_fixed target next) ∙ ap (λ n. 4 * rounded (n + 1) + 8 * length (device_values target)) (device_count target next)
 
 put_cost : (b c : Bool) (k v : ℕ) → 4 * length (cond b (Insn.Addi 6 0 (low_part v) ∷ []) (cond c (Insn.Lui 6 (high_part v) ∷ Insn.Addiw 6 6 (low_part v) ∷ []) (Insn.Ld 6 1 (pos k) ∷ []))) + 8 * length (cond b [] (cond c [] (v ∷ []))) ≤ 12
 put_cost true c k v = omega arith
@@ -201,10 +201,10 @@ unfolding queue_deeds
 queue_count [] rest = omega arith
 queue_count (x ∷ q) rest = let e = queue_count q rest in omega arith
 
-context_count : (k c : ℕ) (es ts : List ℕ) (rest : List Deed) → length (context_deeds k c es ts rest) ≡ 3 * k + length rest
+context_count : (k c : ℕ) (es harts : List ℕ) (rest : List Deed) → length (context_deeds k c es harts rest) ≡ 3 * k + length rest
 unfolding context_deeds
-context_count zero c es ts rest = omega arith
-context_count (suc k) c es ts rest = let e = context_count k (suc c) es ts rest in omega arith
+context_count zero c es harts rest = omega arith
+context_count (suc k) c es harts rest = let e = context_count k (suc c) es harts rest in omega arith
 
 soft_count : (k h : ℕ) (xs : List ℕ) (rest : List Deed) → length (soft_deeds k h xs rest) ≡ k + length rest
 unfolding soft_deeds
@@ -216,33 +216,33 @@ unfolding compare_deeds
 compare_count zero h xs rest = omega arith
 compare_count (suc k) h xs rest = let e = compare_count k (suc h) xs rest in omega arith
 
-timer_count : (t : BoardState) → length (timer_deeds t) ≡ 4 + 2 * hart_count t.clint
-timer_count t =
-    let n : ℕ = hart_count t.clint in
-    let last : List Deed = Aim 5 0x200c000 ∷ Save Double t.clint.mtime 5 (negsuc 7) 0x200bff8 ∷ [] in
-    let more : List Deed = Aim 7 0x2004000 ∷ compare_deeds n 0 t.clint.mtimecmp last in
-    omega (arith, soft_count n 0 t.clint.msip more, compare_count n 0 t.clint.mtimecmp last)
+timer_count : (target : BoardState) → length (timer_deeds target) ≡ 4 + 2 * hart_count target.clint
+timer_count target =
+    let n : ℕ = hart_count target.clint in
+    let last : List Deed = Aim 5 0x200c000 ∷ Save Double target.clint.mtime 5 (negsuc 7) 0x200bff8 ∷ [] in
+    let more : List Deed = Aim 7 0x2004000 ∷ compare_deeds n 0 target.clint.mtimecmp last in
+    omega (arith, soft_count n 0 target.clint.msip more, compare_count n 0 target.clint.mtimecmp last)
 
-deeds_few : (t : BoardState) → IsFit t → length (device_deeds t) ≤ 100
-deeds_few t fit =
-    let n : ℕ = hart_count t.clint in
-    let ds4 : List Deed = Save Word t.console.ctrl 2 (pos 8) 0x10000008 ∷ Save Double t.console.txaddr 2 (pos 16) 0x10000010 ∷ timer_deeds t in
-    let ds3 : List Deed = context_deeds (contexts_of t.plic) 0 t.plic.enable t.plic.threshold ds4 in
-    let ds2 : List Deed = Save Word (slice_index t.plic.priority 0) 3 (pos 4) 0xc000004 ∷ Save Word (slice_index t.plic.priority 1) 3 (pos 8) 0xc000008 ∷ ds3 in
-    omega (arith, queue_count t.console.queue ds2, context_count (contexts_of t.plic) 0 t.plic.enable t.plic.threshold ds4, timer_count t, fit.console.room, fit.clint.most, fit.contexts)
+deeds_few : (target : BoardState) → IsFit target → length (device_deeds target) ≤ 100
+deeds_few target fit =
+    let n : ℕ = hart_count target.clint in
+    let ds4 : List Deed = Save Word target.console.ctrl 2 (pos 8) 0x10000008 ∷ Save Double target.console.txaddr 2 (pos 16) 0x10000010 ∷ timer_deeds target in
+    let ds3 : List Deed = context_deeds (contexts_of target.plic) 0 target.plic.enable target.plic.threshold ds4 in
+    let ds2 : List Deed = Save Word (slice_index target.plic.priority 0) 3 (pos 4) 0xc000004 ∷ Save Word (slice_index target.plic.priority 1) 3 (pos 8) 0xc000008 ∷ ds3 in
+    omega (arith, queue_count target.console.queue ds2, context_count (contexts_of target.plic) 0 target.plic.enable target.plic.threshold ds4, timer_count target, fit.console.room, fit.clint.most, fit.contexts)
 
-pub device_words : (t : BoardState) (next : ℕ) → IsFit t → word_count (device_items 0 t next) ≤ 302
-device_words t next fit =
-    omega (arith, count_append (placed_deeds 0 (device_deeds t)) (record { item = Put 1 next; insns = far_insns next } ∷ []), deeds_words (device_deeds t), deeds_few t fit)
+pub device_words : (target : BoardState) (next : ℕ) → IsFit target → word_count (device_items 0 target next) ≤ 302
+device_words target next fit =
+    omega (arith, count_append (placed_deeds 0 (device_deeds target)) (record { item = Put 1 next; insns = far_insns next } ∷ []), deeds_words (device_deeds target), deeds_few target fit)
 
-pub device_small : (t : BoardState) → IsFit t → device_size t ≤ 1616
+pub device_small : (target : BoardState) → IsFit target → device_size target ≤ 1616
 unfolding device_size
-device_small t fit =
-    omega (arith, count_append (placed_deeds 0 (device_deeds t)) (record { item = Put 1 0; insns = far_insns 0 } ∷ []), deeds_cost (device_deeds t), deeds_few t fit)
+device_small target fit =
+    omega (arith, count_append (placed_deeds 0 (device_deeds target)) (record { item = Put 1 0; insns = far_insns 0 } ∷ []), deeds_cost (device_deeds target), deeds_few target fit)
 
-pub device_even : (t : BoardState) → device_size t % 8 ≡ 0
+pub device_even : (target : BoardState) → device_size target % 8 ≡ 0
 unfolding device_size
-device_even t = let n : ℕ = word_count (device_items 0 t 0) in omega arith
+device_even target = let n : ℕ = word_count (device_items 0 target 0) in omega arith
 
 -- ---- one part after another
 
@@ -259,35 +259,35 @@ unfolding table
 table_length [] = refl
 table_length (x ∷ starts) = let e = table_length starts in omega (arith, length-append (little_bytes 8 x) (table starts))
 
-pub starts_length : (p : ℕ) (ts : List Hart) → length (block_places p ts) ≡ length ts
+pub starts_length : (p : ℕ) (harts : List Hart) → length (block_places p harts) ≡ length harts
 unfolding block_places
 starts_length p [] = refl
-starts_length p (t ∷ ts) = ap (λ n. suc n) (starts_length (p + hart_size t) ts)
+starts_length p (target ∷ harts) = ap (λ n. suc n) (starts_length (p + hart_size target) harts)
 
-pub block_stands : (ts : List Hart) (p i : ℕ) (d : Hart) (rom : List ℕ) → i < length ts → StandAt (all_blocks ts) p rom → StandAt (hart_bytes (get_or ts i d)) (slice_index (block_places p ts) i) rom
+pub block_stands : (harts : List Hart) (p i : ℕ) (d : Hart) (rom : List ℕ) → i < length harts → StandAt (all_blocks harts) p rom → StandAt (hart_bytes (get_or harts i d)) (slice_index (block_places p harts) i) rom
 unfolding block_places all_blocks
 block_stands [] p i d rom within there = absurd (omega arith)
-block_stands (t ∷ ts) p zero d rom within there = stand_first (hart_bytes t) (all_blocks ts) p rom there
-block_stands (t ∷ ts) p (suc i) d rom within there = block_stands ts (p + hart_size t) i d rom (omega arith) (subst (λ q. StandAt (all_blocks ts) q rom) (ap (λ n. p + n) (hart_length t)) (stand_second (hart_bytes t) (all_blocks ts) p rom there))
+block_stands (target ∷ harts) p zero d rom within there = stand_first (hart_bytes target) (all_blocks harts) p rom there
+block_stands (target ∷ harts) p (suc i) d rom within there = block_stands harts (p + hart_size target) i d rom (omega arith) (subst (λ q. StandAt (all_blocks harts) q rom) (ap (λ n. p + n) (hart_length target)) (stand_second (hart_bytes target) (all_blocks harts) p rom there))
 
-pub blocks_length : (ts : List Hart) → length (all_blocks ts) ≤ 1112 * length ts
+pub blocks_length : (harts : List Hart) → length (all_blocks harts) ≤ 1112 * length harts
 unfolding all_blocks
 blocks_length [] = omega arith
-blocks_length (t ∷ ts) = omega (arith, length-append (hart_bytes t) (all_blocks ts), hart_length t, hart_small t, blocks_length ts)
+blocks_length (target ∷ harts) = omega (arith, length-append (hart_bytes target) (all_blocks harts), hart_length target, hart_small target, blocks_length harts)
 
-pub start_even : (ts : List Hart) (p i : ℕ) → p % 8 ≡ 0 → i < length ts → slice_index (block_places p ts) i % 8 ≡ 0
+pub start_even : (harts : List Hart) (p i : ℕ) → p % 8 ≡ 0 → i < length harts → slice_index (block_places p harts) i % 8 ≡ 0
 unfolding block_places
 start_even [] p i even within = absurd (omega arith)
-start_even (t ∷ ts) p zero even within = even
-start_even (t ∷ ts) p (suc i) even within = start_even ts (p + hart_size t) i (omega (arith, hart_even t)) (omega arith)
+start_even (target ∷ harts) p zero even within = even
+start_even (target ∷ harts) p (suc i) even within = start_even harts (p + hart_size target) i (omega (arith, hart_even target)) (omega arith)
 
-pub start_small : (ts : List Hart) (p i : ℕ) → i < length ts → slice_index (block_places p ts) i ≤ p + 1112 * i
+pub start_small : (harts : List Hart) (p i : ℕ) → i < length harts → slice_index (block_places p harts) i ≤ p + 1112 * i
 unfolding block_places
 start_small [] p i within = absurd (omega arith)
-start_small (t ∷ ts) p zero within = omega arith
-start_small (t ∷ ts) p (suc i) within = let e = start_small ts (p + hart_size t) i (omega arith) in omega (arith, hart_small t)
+start_small (target ∷ harts) p zero within = omega arith
+start_small (target ∷ harts) p (suc i) within = let e = start_small harts (p + hart_size target) i (omega arith) in omega (arith, hart_small target)
 
-pub first_start : (ts : List Hart) (p : ℕ) → 0 < length ts → slice_index (block_places p ts) 0 ≡ p
+pub first_start : (harts : List Hart) (p : ℕ) → 0 < length harts → slice_index (block_places p harts) 0 ≡ p
 unfolding block_places
 first_start [] p some = absurd (omega arith)
-first_start (t ∷ ts) p some = refl
+first_start (target ∷ harts) p some = refl

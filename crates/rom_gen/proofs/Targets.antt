@@ -28,19 +28,19 @@ kept_open : all_open kept_slots ≡ true
 unfolding all_open kept_slots is_writable is_listed reset_value
 kept_open = refl
 
-slots_good : (t : Registers) (slots : List Slot) → all_open slots ≡ true → EachSlot (λ s. legal s.number s.reset (kept_value s.number t) ≡ kept_value s.number t) slots → AllGood (slot_wants t slots)
+slots_good : (target : Registers) (slots : List Slot) → all_open slots ≡ true → EachSlot (λ s. legal s.number s.reset (kept_value s.number target) ≡ kept_value s.number target) slots → AllGood (slot_wants target slots)
 unfolding slot_wants all_open
-slots_good t [] opens each = tt
-slots_good t (s ∷ rest) opens each =
+slots_good target [] opens each = tt
+slots_good target (s ∷ rest) opens each =
     let p = and_parts _ _ opens in
     let q = and_parts _ _ p.0 in
     let r = and_parts _ _ q.1 in
-    let below : legal s.number s.reset (kept_value s.number t) < 2 ^ 64 = legal-below s.number s.reset (kept_value s.number t) (ltb-true s.reset 18446744073709551616 r.1) in
+    let below : legal s.number s.reset (kept_value s.number target) < 2 ^ 64 = legal-below s.number s.reset (kept_value s.number target) (ltb-true s.reset 18446744073709551616 r.1) in
     let k = each.0 in
-    ((ltb-true s.number 4096 q.0, r.0, (omega arith)), slots_good t rest p.1 each.1)
+    ((ltb-true s.number 4096 q.0, r.0, (omega arith)), slots_good target rest p.1 each.1)
 
-pub kept_good : (t : Registers) → IsFit t → AllGood (slot_wants t kept_slots)
-kept_good t fit = slots_good t kept_slots kept_open (IsFit-slots t fit)
+pub kept_good : (target : Registers) → IsFit target → AllGood (slot_wants target kept_slots)
+kept_good target fit = slots_good target kept_slots kept_open (IsFit-slots target fit)
 
 pub pc_kept : (old pc : ℕ) → pc < 2 ^ 64 → pc % 2 ≡ 0 → legal csr_dpc old pc ≡ pc
 unfolding legal kept_bits
@@ -59,15 +59,15 @@ control_append [] c first second = second
 control_append (Reg r v ∷ a) c first second = absurd first
 control_append (Control number v ∷ a) c first second = control_append a c first second
 
-slots_only : (t : Registers) (slots : List Slot) → AllControl (slot_wants t slots)
+slots_only : (target : Registers) (slots : List Slot) → AllControl (slot_wants target slots)
 unfolding slot_wants
-slots_only t [] = tt
-slots_only t (s ∷ rest) = slots_only t rest
+slots_only target [] = tt
+slots_only target (s ∷ rest) = slots_only target rest
 
-slots_keep : (t : Registers) (slots : List Slot) → AllKeep (slot_wants t slots)
+slots_keep : (target : Registers) (slots : List Slot) → AllKeep (slot_wants target slots)
 unfolding slot_wants
-slots_keep t [] = tt
-slots_keep t (s ∷ rest) = (tt, slots_keep t rest)
+slots_keep target [] = tt
+slots_keep target (s ∷ rest) = (tt, slots_keep target rest)
 
 numbered_good : (n i : ℕ) (xs : List ℕ) → 0 < i → i + n ≤ 32 → length xs ≡ 32 → All (λ v. v < 2 ^ 64) xs → AllGood (numbered n i xs)
 unfolding numbered
@@ -88,22 +88,22 @@ mode_small Mode.U = omega arith
 mode_small Mode.S = omega arith
 mode_small Mode.M = omega arith
 
-pub is_target : (t : Hart) → IsWellFormed t → t.csrs.debug ≡ None → IsTarget t
-is_target t fit out =
-    let last : List Want = Control csr_dcsr (dcsr_fixed + level t.mode) ∷ Control csr_dpc t.pc ∷ [] in
-    let slots : List Want = slot_wants t.csrs kept_slots in
-    let good : AllGood (controls t) = good_append slots last (kept_good t.csrs fit.registers) ((omega arith, control_open.0, mode_small t.mode), ((omega arith, control_open.1, fit.pc), tt)) in
-    let good_x : AllGood (registers t) = numbered_good 30 2 t.x (omega arith) (omega arith) fit.count fit.values in
+pub is_target : (target : Hart) → IsWellFormed target → target.csrs.debug ≡ None → IsTarget target
+is_target target fit out =
+    let last : List Want = Control csr_dcsr (dcsr_fixed + level target.mode) ∷ Control csr_dpc target.pc ∷ [] in
+    let slots : List Want = slot_wants target.csrs kept_slots in
+    let good : AllGood (controls target) = good_append slots last (kept_good target.csrs fit.registers) ((omega arith, control_open.0, mode_small target.mode), ((omega arith, control_open.1, fit.pc), tt)) in
+    let good_x : AllGood (registers target) = numbered_good 30 2 target.x (omega arith) (omega arith) fit.count fit.values in
     record {
       csrs = fit.registers;
       out = out;
       count = fit.count;
       nought = fit.fit.zero;
-      pc = λ old. pc_kept old t.pc fit.pc fit.fit.even;
+      pc = λ old. pc_kept old target.pc fit.pc fit.fit.even;
       good_controls = good;
-      only_controls = control_append slots last (slots_only t.csrs kept_slots) tt;
+      only_controls = control_append slots last (slots_only target.csrs kept_slots) tt;
       good_registers = good_x;
-      good = good_append (controls t) (registers t) good good_x;
-      keeps = keep_append (controls t) (registers t) (keep_append slots last (slots_keep t.csrs kept_slots) (tt, (tt, tt))) (numbered_keep 30 2 t.x (omega arith));
+      good = good_append (controls target) (registers target) good good_x;
+      keeps = keep_append (controls target) (registers target) (keep_append slots last (slots_keep target.csrs kept_slots) (tt, (tt, tt))) (numbered_keep 30 2 target.x (omega arith));
       last = (omega arith, omega arith, fit.values 1 0 (let k = fit.count in omega arith));
     }

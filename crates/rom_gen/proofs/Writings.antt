@@ -120,23 +120,23 @@ from_all_of p (x ∷ xs) e (suc k) d within = from_all_of p xs (and_parts (p x) 
 
 -- ---- a hart
 
-pub hart_written : (a b c d e f : Writer) (t : Hart) (r : Registers) (numbers : List ℕ) (v1 v2 v3 : ℕ) → r ≡ t.csrs → numbers ≡ map number_of kept_slots → v1 ≡ dcsr_fixed + level t.mode → v2 ≡ t.pc → v3 ≡ slice_index t.x 1 →
-    Wrote a b (number_wants r numbers) → Adds b c (all_insns (want_items (offset_of b) (Control csr_dcsr v1))) (want_values (Control csr_dcsr v1)) → Adds c d (all_insns (want_items (offset_of c) (Control csr_dpc v2))) (want_values (Control csr_dpc v2)) → Wrote d e (numbered 30 2 t.x) → Adds e f (put_insns (offset_of e) 1 v3) (put_values v3) →
-    Adds a f (all_insns (hart_items t (offset_of a))) (hart_values t)
-hart_written a b c d e f t r numbers v1 v2 v3 same all is1 is2 is3 slots control pc xs last =
-    let ws : List Want = slot_wants t.csrs kept_slots in
-    let w1 : Want = Control csr_dcsr (dcsr_fixed + level t.mode) in
-    let w2 : Want = Control csr_dpc t.pc in
-    let w3 : Want = Reg 1 (slice_index t.x 1) in
-    let one : Wrote a b ws = subst (λ x. Wrote a b x) (ap (λ x. number_wants x numbers) same ∙ ap (number_wants t.csrs) all ∙ sym (slots_by_number t.csrs kept_slots)) slots in
+pub hart_written : (a b c d e f : Writer) (target : Hart) (r : Registers) (numbers : List ℕ) (v1 v2 v3 : ℕ) → r ≡ target.csrs → numbers ≡ map number_of kept_slots → v1 ≡ dcsr_fixed + level target.mode → v2 ≡ target.pc → v3 ≡ slice_index target.x 1 →
+    Wrote a b (number_wants r numbers) → Adds b c (all_insns (want_items (offset_of b) (Control csr_dcsr v1))) (want_values (Control csr_dcsr v1)) → Adds c d (all_insns (want_items (offset_of c) (Control csr_dpc v2))) (want_values (Control csr_dpc v2)) → Wrote d e (numbered 30 2 target.x) → Adds e f (put_insns (offset_of e) 1 v3) (put_values v3) →
+    Adds a f (all_insns (hart_items target (offset_of a))) (hart_values target)
+hart_written a b c d e f target r numbers v1 v2 v3 same all is1 is2 is3 slots control pc xs last =
+    let ws : List Want = slot_wants target.csrs kept_slots in
+    let w1 : Want = Control csr_dcsr (dcsr_fixed + level target.mode) in
+    let w2 : Want = Control csr_dpc target.pc in
+    let w3 : Want = Reg 1 (slice_index target.x 1) in
+    let one : Wrote a b ws = subst (λ x. Wrote a b x) (ap (λ x. number_wants x numbers) same ∙ ap (number_wants target.csrs) all ∙ sym (slots_by_number target.csrs kept_slots)) slots in
     let two : Wrote b c (w1 ∷ []) = wrote_one b c w1 (subst (λ v. Adds b c (all_insns (want_items (offset_of b) (Control csr_dcsr v))) (want_values (Control csr_dcsr v))) is1 control) in
     let three : Wrote c d (w2 ∷ []) = wrote_one c d w2 (subst (λ v. Adds c d (all_insns (want_items (offset_of c) (Control csr_dpc v))) (want_values (Control csr_dpc v))) is2 pc) in
     let four : Wrote a d (ws ++ (w1 ∷ w2 ∷ [])) = wrote_join a b d ws (w1 ∷ w2 ∷ []) one (wrote_join b c d (w1 ∷ []) (w2 ∷ []) two three) in
-    let five : Wrote a e (first_wants t) = wrote_join a d e (ws ++ (w1 ∷ w2 ∷ [])) (numbered 30 2 t.x) four xs in
-    let here : Adds e f (all_insns (want_items (offset_of e) w3)) (want_values w3) = put_one e f 1 (slice_index t.x 1) (subst (λ v. Adds e f (put_insns (offset_of e) 1 v) (put_values v)) is3 last) in
-    let us : List ℕ = all_values want_values (first_wants t) in
+    let five : Wrote a e (first_wants target) = wrote_join a d e (ws ++ (w1 ∷ w2 ∷ [])) (numbered 30 2 target.x) four xs in
+    let here : Adds e f (all_insns (want_items (offset_of e) w3)) (want_values w3) = put_one e f 1 (slice_index target.x 1) (subst (λ v. Adds e f (put_insns (offset_of e) 1 v) (put_values v)) is3 last) in
+    let us : List ℕ = all_values want_values (first_wants target) in
     let next : ℕ = offset_of a + 8 * length us in
-    let items : List Spelling = placed want_items want_values (offset_of a) (first_wants t) in
+    let items : List Spelling = placed want_items want_values (offset_of a) (first_wants target) in
     let six : Adds e f (all_insns (want_items next w3)) (want_values w3) = subst (λ k. Adds e f (all_insns (want_items k w3)) (want_values w3)) (offset_on a e (all_insns items) us five) here in
     subst (λ x. Adds a f x (us ++ want_values w3)) (sym (insns_append items (want_items next w3))) (adds_join a e f (all_insns items) (all_insns (want_items next w3)) us (want_values w3) five six)
 
@@ -169,10 +169,10 @@ block_written items last values a b n fixed no_code no_pool place is adds =
     ∙ ap (λ m. (code (all_insns (items k)) ++ code (last ∷ [])) ++ (code (padding m) ++ b.pool.items)) words
     ∙ ap (λ x. (code (all_insns (items k)) ++ code (last ∷ [])) ++ (code (padding (block_words items)) ++ x)) pools
 
-pub hart_bytes_written : (t : Hart) (a b : Writer) (n : ℕ) → a.code.items ≡ [] → a.pool.items ≡ [] → a.place ≡ pool_place (hart_items t) → n ≡ encoded Insn.Dret → Adds a b (all_insns (hart_items t (offset_of a))) (hart_values t) → (b.code.items ++ little_bytes 4 n) ++ (code (padding (length b.code.items / 4 + 1)) ++ b.pool.items) ≡ hart_bytes t
+pub hart_bytes_written : (target : Hart) (a b : Writer) (n : ℕ) → a.code.items ≡ [] → a.pool.items ≡ [] → a.place ≡ pool_place (hart_items target) → n ≡ encoded Insn.Dret → Adds a b (all_insns (hart_items target (offset_of a))) (hart_values target) → (b.code.items ++ little_bytes 4 n) ++ (code (padding (length b.code.items / 4 + 1)) ++ b.pool.items) ≡ hart_bytes target
 unfolding hart_bytes
-hart_bytes_written t a b n no_code no_pool place is adds = block_written (hart_items t) Insn.Dret (hart_values t) a b n (hart_fixed t) no_code no_pool place is adds
+hart_bytes_written target a b n no_code no_pool place is adds = block_written (hart_items target) Insn.Dret (hart_values target) a b n (hart_fixed target) no_code no_pool place is adds
 
 -- a hart's code and its place have room
-pub hart_drafted : (t : Hart) (a b : Writer) → a.code.items ≡ [] → Adds a b (all_insns (hart_items t (offset_of a))) (hart_values t) → length b.code.items ≤ 660
-hart_drafted t a b none adds = omega (arith, drafted (hart_items t) (hart_values t) a b (hart_fixed t) none adds, hart_short t)
+pub hart_drafted : (target : Hart) (a b : Writer) → a.code.items ≡ [] → Adds a b (all_insns (hart_items target (offset_of a))) (hart_values target) → length b.code.items ≤ 660
+hart_drafted target a b none adds = omega (arith, drafted (hart_items target) (hart_values target) a b (hart_fixed target) none adds, hart_short target)

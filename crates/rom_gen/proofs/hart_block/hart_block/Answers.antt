@@ -17,7 +17,7 @@ end-requires c = let e = hart_drafted c.args.hart.now c.new-writer.result c.hart
 
 pub returns : goal.returns
 returns c =
-    let t = c.args.hart.now in
-    let length_is : length c.hart.new.self.code.items ≡ 4 * word_count (hart_items t 0) = drafted (hart_items t) (hart_values t) c.new-draft.result c.hart.new.self (hart_fixed t) c.new-draft.ensures.code c.in_ok-hart.ensures in
-    let place : c.new-writer.result.place ≡ pool_place (hart_items t) = c.new-writer.ensures.place ∙ c.pool_place.ensures ∙ place_drafted (hart_items t) (length c.hart.new.self.code.items) length_is in
-    IfOk-weaker c.end.result _ _ (λ v e. e ∙ hart_bytes_written t c.new-writer.result c.hart-2.new.self c.dret.result c.new-writer.ensures.code c.new-writer.ensures.pool place c.dret.ensures c.in_ok-hart-2.ensures) c.end.ensures
+    let target = c.args.hart.now in
+    let length_is : length c.hart.new.self.code.items ≡ 4 * word_count (hart_items target 0) = drafted (hart_items target) (hart_values target) c.new-draft.result c.hart.new.self (hart_fixed target) c.new-draft.ensures.code c.in_ok-hart.ensures in
+    let place : c.new-writer.result.place ≡ pool_place (hart_items target) = c.new-writer.ensures.place ∙ c.pool_place.ensures ∙ place_drafted (hart_items target) (length c.hart.new.self.code.items) length_is in
+    IfOk-weaker c.end.result _ _ (λ v e. e ∙ hart_bytes_written target c.new-writer.result c.hart-2.new.self c.dret.result c.new-writer.ensures.code c.new-writer.ensures.pool place c.dret.ensures c.in_ok-hart-2.ensures) c.end.ensures
