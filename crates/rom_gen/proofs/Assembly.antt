@@ -17,7 +17,8 @@ use Rattle.rom_gen.proofs.AllHarts.{total}
 use Rattle.rom_gen.specs.Items.{code}
 use Rattle.rom_gen.specs.Executed.{Restores}
 use Rattle.rom_gen.specs.Rom.{all_blocks, device_bytes, device_place, dispatch_insns, first_place, hart_bytes, start_places, rom_bytes, block_places, table, hart_size, addresses, dispatch_bytes}
-use Rattle.rom_gen.proofs.Restores.{places_length, restores, steps_of, address_at, addresses_length}
+use Rattle.rom_gen.proofs.Parts.{places_length, address_at, addresses_length}
+use Rattle.rom_gen.proofs.Restores.{restores, steps_of}
 use Rattle.rom_gen.proofs.RomParts.{hart_length, hart_small, starts_length}
 use Rattle.hart_turns.specs.Boot.{booted}
 

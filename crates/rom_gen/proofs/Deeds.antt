@@ -24,7 +24,8 @@ use Rattle.rom_gen.specs.Wants.{is_short, is_small, pool, put_insns, put_values,
 use Rattle.rom_gen.specs.Deeds.{Deed, Aim, Save, Again, Read, all_deed_values, deed_items, deed_values, placed_deeds}
 use Rattle.rom_gen.proofs.Runs.{IsReached, IsSound, Known, Runs, board_after_deed, known_after, known_all, knows}
 use Rattle.rom_gen.proofs.Blocks.{nothing_lost}
-use Rattle.rom_gen.proofs.ItemSteps.{put_is, stand_first, stand_second}
+use Rattle.rom_gen.proofs.Standing.{put_is}
+use Rattle.rom_gen.proofs.ItemSteps.{stand_first, stand_second}
 use Rattle.rom_gen.proofs.Placed.{pool_append, pool_length, spelled_append}
 use Rattle.rom_gen.proofs.WantLayout.{put_spelled}
 

@@ -24,7 +24,8 @@ use Rattle.rom_gen.proofs.Deeds.{Did, Works, WorksHart, deeds_do, do_append, mov
 use Rattle.rom_gen.proofs.DeviceRuns.{devices_run}
 use Rattle.rom_gen.specs.Executed.{HasCome, NoneReserves}
 use Rattle.rom_gen.proofs.HartBlock.{insns_count}
-use Rattle.rom_gen.proofs.ItemSteps.{AllFollowed, code_length, item_steps, items_lead, put_is, stand_first, stand_second}
+use Rattle.rom_gen.proofs.ItemSteps.{AllFollowed, code_length, item_steps, items_lead, stand_first, stand_second}
+use Rattle.rom_gen.proofs.Standing.{put_is}
 use Rattle.hart_turns.proofs.BootSteps.{leads_join}
 use Rattle.rom_gen.proofs.Placed.{spelled_append}
 use Rattle.rom_gen.proofs.WantLayout.{high_fits, high_multiple, low_fits, pair_value}

@@ -24,7 +24,8 @@ use Rattle.rom_gen.proofs.Blocks.{becomes_again, becomes_itself}
 use Rattle.rom_gen.proofs.Fetch.{room}
 use Rattle.rom_gen.proofs.Forms.{go_step, pooled_effect}
 use Rattle.rom_gen.specs.Executed.{HasCome, Dispatches, HasBegun, sent_on}
-use Rattle.rom_gen.proofs.ItemSteps.{leads_quiet, put_is, stand_first, stand_second, stands_put, code_length}
+use Rattle.rom_gen.proofs.ItemSteps.{leads_quiet, stand_first, stand_second, code_length}
+use Rattle.rom_gen.proofs.Standing.{put_is, stands_put}
 use Rattle.hart_turns.proofs.BootSteps.{leads_join}
 use Rattle.rom_gen.proofs.Joins.{Does}
 use Rattle.rom_gen.proofs.Steps.{at_word, does_effect}

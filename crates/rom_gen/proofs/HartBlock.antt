@@ -23,7 +23,7 @@ use Rattle.rom_gen.proofs.HartWants.{AllControl, SameBut2, controls_restore, csr
 use Rattle.rom_gen.proofs.ItemSteps.{AllFollowed, code_length, item_steps, items_lead, stand_first, stand_second}
 use Rattle.hart_turns.proofs.BootSteps.{frees_join}
 use Rattle.rom_gen.proofs.Placed.{all_inner, hart_append, inner_append, placed_append, placed_base, placed_csrs, placed_spelled, pool_append, pool_length, spelled_append}
-use Rattle.rom_gen.proofs.Whole.{left_is}
+use Rattle.rom_gen.proofs.Left.{left_is}
 use Rattle.rom_gen.specs.Executed.{HasCome}
 
 inner_item : (item : Item) → IsInner item → IsFollowed item

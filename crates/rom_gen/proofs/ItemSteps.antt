@@ -1,10 +1,9 @@
 -- The steps of a hart at the spelling of an item do what the item does.
-use Rattle.std.proofs.Common.{◌≡◌, ℕ, ◌+◌, ◌*◌, ◌%◌, ◌^◌, ◌<◌, ◌≤◌, Bool, true, false, not, ◌&&◌, cond, List, [], ◌∷◌, ◌++◌, length, drop, refl, sym, ap, ◌∙◌, arith, subst, append_assoc}
+use Rattle.std.proofs.Common.{◌≡◌, ℕ, ◌+◌, ◌*◌, ◌<◌, ◌≤◌, Bool, true, false, not, ◌&&◌, cond, List, [], ◌∷◌, ◌++◌, length, drop, refl, sym, ap, ◌∙◌, arith, subst, append_assoc}
 use Rattle.std.specs.List.{list_any}
 use Rattle.std.specs.Prelude.{is_some, Option, Some, None, slice_set, map}
 use Rattle.csr_file.specs.Write.{written}
-use Rattle.std.proofs.lemmas.Bool.{ne_eqb}
-use Rattle.std.proofs.lemmas.List.{append-nil, set-set, get_or-set_same, get_or-set_other, length-set, drop-drop, drop_at, length-map}
+use Rattle.std.proofs.lemmas.List.{append-nil, get_or-set_same, length-set, drop-drop, drop_at, length-map}
 use Rattle.std.proofs.Math.ListN.{set}
 use Rattle.byteorder.specs.Endian.{little_bytes}
 use Rattle.rv_alu.specs.Arithmetic.{alu_of, modulo}
@@ -34,6 +33,7 @@ use Rattle.rom_gen.proofs.Devices.{leave_step}
 use Rattle.rom_gen.proofs.Joins.{Does, acted, frees_step, leads_step, length-after}
 use Rattle.rom_gen.proofs.Steps.{csr_imm_step, csr_step, small_step}
 use Rattle.rom_gen.proofs.Forms.{go_step, load_step, low_step, pooled_step, store_step, upper_step}
+use Rattle.rom_gen.proofs.Standing.{becomes_twice, debugs_put, pair_is, put_is, stands_on, stands_put}
 
 -- no interrupt is given to a hart in debug mode
 pub unpicked : (r : Registers) (mode : Mode) (live : ℕ) → is_some r.debug ≡ true → picked r mode live ≡ None
@@ -62,46 +62,6 @@ quiet b h hart = ap (λ c. record { core = record b.core { harts = slice_set b.c
 
 pub leads_quiet : (b : Booting) (h : ℕ) (hart next : Hart) → h < length b.core.harts → hart_of b.core h ≡ hart → is_in_debug hart ≡ true → is_in_debug next ≡ true → ((given : Given) → given.interrupt ≡ None → Does (memory_of b.core) (hart_step given (length b.core.harts) h hart (memory_of b.core)) None next Untouched) → Leads h 1 b (becomes h 1 next b)
 leads_quiet b h hart next inside is debugs still step = subst (λ x. Leads h 1 b x) (quiet b h next) (leads_at b h hart next None Untouched inside is debugs still step)
-
--- ---- how a hart stands after an item
-
-pub put_is : (hart : Hart) (r v next : ℕ) → 0 < r → with_write hart r v next ≡ record hart { x = slice_set hart.x r v; pc = next }
-put_is hart r v next some = ap (λ c. record (cond c hart (record hart { x = slice_set hart.x r v })) { pc = next }) (ne_eqb r 0 (omega arith))
-
-pub stands_put : (memory : MemoryState) (hart : Hart) (p k r v : ℕ) → Stands memory hart p → 0 < r → p + k ≤ length memory.rom → Stands memory (with_write hart r v (pc_after hart k)) (p + k)
-stands_put memory hart p k r v stands some within = subst (λ x. Stands memory x (p + k)) (sym (put_is hart r v (pc_after hart k) some)) (record {
-  debugs = stands.debugs;
-  at = (let e = stands.at in let s = stands.small in omega arith);
-  nought = get_or-set_other hart.x r 0 v 0 (omega arith) ∙ stands.nought;
-  count = length-set hart.x r v ∙ stands.count;
-  small = stands.small;
-})
-
-stands_on : (memory : MemoryState) (hart : Hart) (p k : ℕ) (csrs : Registers) → Stands memory hart p → is_some csrs.debug ≡ true → p + k ≤ length memory.rom → Stands memory (record hart { csrs = csrs; pc = pc_after hart k }) (p + k)
-stands_on memory hart p k csrs stands debugs within = record {
-  debugs = debugs;
-  at = (let e = stands.at in let s = stands.small in omega arith);
-  nought = stands.nought;
-  count = stands.count;
-  small = stands.small;
-}
-
-pair_is : (hart : Hart) (r a v : ℕ) → 0 < r → with_write (with_write hart r a (pc_after hart 4)) r v (pc_after (with_write hart r a (pc_after hart 4)) 4) ≡ with_write hart r v (pc_after hart 8)
-pair_is hart r a v some =
-    let next : ((hart.pc + 4) % 2 ^ 64 + 4) % 2 ^ 64 ≡ (hart.pc + 8) % 2 ^ 64 = omega arith in
-    ap (λ (x : Hart). with_write x r v (pc_after x 4)) (put_is hart r a (pc_after hart 4) some)
-    ∙ put_is (record hart { x = slice_set hart.x r a; pc = pc_after hart 4 }) r v (((hart.pc + 4) % 2 ^ 64 + 4) % 2 ^ 64) some
-    ∙ ap (λ xs. record hart { x = xs; pc = ((hart.pc + 4) % 2 ^ 64 + 4) % 2 ^ 64 }) (set-set hart.x r a v)
-    ∙ ap (λ q. record hart { x = slice_set hart.x r v; pc = q }) next
-    ∙ sym (put_is hart r v (pc_after hart 8) some)
-
-debugs_put : (hart : Hart) (r v next : ℕ) → 0 < r → is_in_debug hart ≡ true → is_in_debug (with_write hart r v next) ≡ true
-debugs_put hart r v next some debugs = ap is_in_debug (put_is hart r v next some) ∙ debugs
-
-becomes_twice : (b : Booting) (h : ℕ) (first second : Hart) → becomes h 1 second (becomes h 1 first b) ≡ becomes h 2 second b
-becomes_twice b h first second =
-    ap (λ hs. record b { core = record b.core { harts = hs }; steps = b.steps + 1 + 1 }) (set-set b.core.harts h first second)
-    ∙ ap (λ n. record b { core = record b.core { harts = slice_set b.core.harts h second }; steps = n }) (omega arith)
 
 -- ---- out of debug mode
 

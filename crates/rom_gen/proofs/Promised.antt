@@ -18,7 +18,7 @@ use Rattle.rom_gen.proofs.DeviceEnd.{devices_done}
 use Rattle.rom_gen.proofs.HartBlock.{IsTarget}
 use Rattle.rom_gen.proofs.HartWants.{controls_restore}
 use Rattle.rom_gen.proofs.Placed.{placed_csrs}
-use Rattle.rom_gen.proofs.Restores.{device_part, device_steps, hart_part, hart_steps}
+use Rattle.rom_gen.proofs.BlockRuns.{device_part, device_steps, hart_part, hart_steps}
 use Rattle.rom_gen.proofs.RomBytes.{rom_bytes_fit}
 use Rattle.rom_gen.proofs.RomParts.{device_fixed, device_words, hart_fixed, hart_short}
 use Rattle.rom_gen.proofs.Targets.{is_target}

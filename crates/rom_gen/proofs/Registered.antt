@@ -1,7 +1,7 @@
 -- Which device registers are listed, what is stored there, and that nothing is sent.
 use Rattle.std.proofs.Common.{◌≡◌, ℕ, ◌+◌, ◌*◌, ◌%◌, ◌-◌, ◌<◌, ◌≤◌, Bool, true, false, cond, List, [], refl, arith, ◌==◌, ◌&&◌}
 use Rattle.std.specs.Prelude.{nat_le, nat_lt, slice_set}
-use Rattle.std.proofs.lemmas.Bool.{lt-ltb, le-ltb, lt-leb, le-leb, ne_eqb}
+use Rattle.std.proofs.lemmas.Bool.{lt-ltb, lt-leb, le-leb, ne_eqb}
 use Rattle.rv_alu.specs.Bits.{low_bytes}
 use Rattle.device_rows.specs.Rows.{row_at}
 use Rattle.plic.specs.Layout.{word_at}
@@ -41,20 +41,6 @@ time_listed n = refl
 pub claim_listed : (n : ℕ) → 0 < n → is_listed n 0xc200004 4 ≡ true
 unfolding is_listed place_of word_at row_at
 claim_listed n some = let low : nat_lt 0x200004 (0x200004 + 0x1000 * (2 * n)) ≡ true = lt-ltb _ _ (omega arith) in rw low refl
-
-pub threshold_listed : (harts c : ℕ) → c < 2 * harts → 2 * harts ≤ 16 → is_listed harts (0xc200000 + 4096 * c) 4 ≡ true
-unfolding is_listed place_of word_at
-threshold_listed harts c within most =
-    let a : nat_lt (0xc200000 + 4096 * c) 0x2010000 ≡ false = le-ltb _ _ (omega arith) in
-    let l : nat_le 0x2000000 (0xc200000 + 4096 * c) ≡ true = le-leb _ _ (omega arith) in
-    let d : nat_le 0xc000000 (0xc200000 + 4096 * c) ≡ true = le-leb _ _ (omega arith) in
-    let e : nat_lt (0xc200000 + 4096 * c) 0x10000000 ≡ true = lt-ltb _ _ (omega arith) in
-    let f : 0xc200000 + 4096 * c - 0xc000000 ≡ 0x200000 + 4096 * c = omega arith in
-    let g : nat_lt (0x200000 + 4096 * c) 0x1000 ≡ false = le-ltb _ _ (omega arith) in
-    let h : (0x200000 + 4096 * c == 0x1000) ≡ false = ne_eqb _ _ (omega arith) in
-    let k : nat_lt (0x200000 + 4096 * c) 0x200000 ≡ false = le-ltb _ _ (omega arith) in
-    let o : ((0x200000 + 4096 * c) % 0x1000 == 4) ≡ false = ne_eqb _ _ (omega arith) in
-    rw (a, l, d, e, f, g, h, k, o, row_is 0x200000 4096 (2 * harts) c (omega arith) within (omega arith) (omega arith) (omega arith)) refl
 
 pub soft_listed : (n h : ℕ) → h < n → n ≤ 8 → is_listed n (0x2000000 + 4 * h) 4 ≡ true
 unfolding is_listed place_of clint_register

@@ -1,16 +1,10 @@
 -- Booting from the ROM restores the machine.
-use Rattle.std.proofs.Common.{◌≡◌, ℕ, zero, suc, ◌+◌, ◌%◌, ◌^◌, ◌<◌, ◌≤◌, ⊎_elim, Bool, true, false, cond, List, [], ◌∷◌, ◌++◌, length, refl, sym, ap, ◌∙◌, arith, subst, length-append, map, zero-add}
-use Rattle.std.specs.Prelude.{pos, All, Option, Some, None, is_some, is_none, slice_index, nat_lt}
-use Rattle.std.specs.List.{position, position_or_len}
+use Rattle.std.proofs.Common.{◌≡◌, ℕ, zero, suc, ◌+◌, ◌<◌, ◌≤◌, true, false, cond, List, [], length, refl, sym, ap, ◌∙◌, arith, subst, map}
+use Rattle.std.specs.Prelude.{All, None, slice_index}
 use Rattle.std.proofs.Math.ListN.{get_or}
-use Rattle.std.proofs.Math.Seq.{get_or-append_seam}
-use Rattle.std.proofs.lemmas.Bool.{cases_eq, ltb-false}
-use Rattle.std.proofs.lemmas.List.{append-nil, get_or-map, get_or_append_left, get_or-set_same, get_or-set_other, length-map, length-set, same_lists}
+use Rattle.std.proofs.lemmas.List.{get_or-map, get_or-set_same, get_or-set_other, length-map, length-set, same_lists}
 use Rattle.std.proofs.lemmas.List.Elements.{All-set}
 use Rattle.std.proofs.lemmas.List.Folds.{list_any_at, list_any_none}
-use Rattle.std.proofs.lemmas.List.Sums.{fails_before_first}
-use Rattle.rv_decode.specs.declared.Insn.{Insn}
-use Rattle.csr_file.specs.declared.registers.DebugRegs.{DebugRegs}
 use Rattle.clint.specs.State.{hart_count}
 use Rattle.board_bus.specs.Board.{BoardState, IsFit as IsFitBoard, reset_board}
 use Rattle.hart_step.specs.declared.hart.Hart.{Hart}
@@ -21,150 +15,22 @@ use Rattle.hart_step.specs.Step.{unreserved, unreserved_hart, memory_of}
 use Rattle.hart_turns.specs.Machine.{MachineState, is_running, debug_machine}
 use Rattle.hart_turns.specs.Fit.{IsFit}
 use Rattle.hart_turns.specs.Boot.{Booting, Frees, Leads, boot_harts, most_steps, begins_boot}
-use Rattle.rom_gen.specs.Items.{Spelling, StandAt, code, word_count, Stands}
+use Rattle.rom_gen.specs.Items.{StandAt, Stands}
 use Rattle.rom_gen.specs.ItemEffects.{becomes, rom_while, moved, freed}
 use Rattle.hart_step.specs.DebugReset.{debug_registers, debug_core, debug_harts, reset_debug_hart}
-use Rattle.rom_gen.specs.Rom.{all_blocks, device_bytes, device_items, device_place, device_size, device_values, dispatch_insns, first_place, hart_bytes, hart_items, hart_values, start_places, pool_place, rom_bytes, block_places, table, addresses, dispatch_bytes}
-use Rattle.rom_gen.proofs.AllHarts.{all_free, at_hart, half, half_done, half_later, half_length, total}
-use Rattle.rom_gen.proofs.DeviceEnd.{device_block}
+use Rattle.rom_gen.specs.Rom.{device_items, device_place, first_place, hart_bytes, hart_items, start_places, pool_place, rom_bytes, block_places, addresses}
+use Rattle.rom_gen.proofs.AllHarts.{all_free, at_hart, partly, partly_done, partly_later, partly_length, total}
 use Rattle.rom_gen.proofs.Dispatched.{dispatches, sent_comes}
-use Rattle.rom_gen.specs.Executed.{HasCome, HasBegun, NoneReserves, sent_on}
-use Rattle.rom_gen.proofs.HartBlock.{IsTarget, freed_moved, hart_block}
-use Rattle.rom_gen.proofs.ItemSteps.{code_length, stand_first, stand_second}
+use Rattle.rom_gen.specs.Executed.{HasCome, HasBegun, sent_on}
+use Rattle.rom_gen.proofs.HartBlock.{IsTarget, freed_moved}
 use Rattle.hart_turns.proofs.BootSteps.{frees_join, leads_join}
-use Rattle.rom_gen.proofs.RomParts.{Laid, block_stands, blocks_length, device_count, device_even, device_fixed, device_length, device_small, device_words, first_start, hart_few, hart_fixed, hart_short, laid, start_even, start_small, starts_length, table_length}
-use Rattle.rom_gen.proofs.WantLayout.{want_layout}
+use Rattle.rom_gen.proofs.RomParts.{device_even, device_fixed, device_small, device_words, first_start, hart_fixed, hart_short, starts_length}
 use Rattle.rom_gen.proofs.Targets.{is_target}
 use Rattle.csr_file.specs.Kept.{reset_registers}
 use Rattle.csr_file.specs.declared.registers.Registers.{Registers}
-
--- ---- where the parts stand
-
-record Parts (board : BoardState) (harts : List Hart) (rom : List ℕ) : Type 0 where
-  small : length rom ≤ most_rom
-  dispatch : StandAt (dispatch_bytes (addresses (start_places board harts))) 0 rom
-  device : StandAt (device_bytes board (rom_base + first_place board harts)) (device_place harts) rom
-  blocks : (i : ℕ) (d : Hart) → i < length harts → StandAt (hart_bytes (get_or harts i d)) (slice_index (block_places (first_place board harts) harts) i) rom
-
-pub places_length : (board : BoardState) (harts : List Hart) → length (start_places board harts) ≡ length harts
-places_length board harts = length-set (block_places (first_place board harts) harts) 0 (device_place harts) ∙ starts_length (first_place board harts) harts
-
-pub addresses_length : (board : BoardState) (harts : List Hart) → length (addresses (start_places board harts)) ≡ length harts
-addresses_length board harts = length-map (start_places board harts) (λ place. rom_base + place) ∙ places_length board harts
-
-dispatch_length : (board : BoardState) (harts : List Hart) → length (dispatch_bytes (addresses (start_places board harts))) ≡ device_place harts
-unfolding dispatch_bytes
-dispatch_length board harts =
-    let starts : List ℕ = addresses (start_places board harts) in
-    omega (arith, length-append (code dispatch_insns) (table starts), code_length dispatch_insns, table_length starts, addresses_length board harts)
-
-parts : (board : BoardState) (harts : List Hart) → IsFitBoard board → length harts ≤ 8 → Parts board harts (rom_bytes board harts)
-parts board harts fit few =
-    let first : ℕ = first_place board harts in
-    let a : List ℕ = dispatch_bytes (addresses (start_places board harts)) in
-    let d : List ℕ = device_bytes board (rom_base + first) in
-    let e : List ℕ = all_blocks harts in
-    let rom : List ℕ = a ++ (d ++ e) in
-    let a_length : length a ≡ device_place harts = dispatch_length board harts in
-    let d_length : length d ≡ device_size board = device_length board (rom_base + first) in
-    let whole : StandAt rom 0 rom = ([], sym (append-nil rom)) in
-    let behind_a : StandAt (d ++ e) (device_place harts) rom = subst (λ q. StandAt (d ++ e) q rom) (zero-add (length a) ∙ a_length) (stand_second a (d ++ e) 0 rom whole) in
-    let behind_d : StandAt e first rom = subst (λ q. StandAt e q rom) (ap (λ n. device_place harts + n) d_length) (stand_second d e (device_place harts) rom behind_a) in
-    record {
-      small = omega (arith, length-append a (d ++ e), length-append d e, a_length, d_length, device_small board fit, blocks_length harts, few);
-      dispatch = stand_first a (d ++ e) 0 rom whole;
-      device = stand_first d e (device_place harts) rom behind_a;
-      blocks = λ i x within. block_stands harts first i x rom within behind_d;
-    }
-
--- where a hart goes on
-record IsStart (place : ℕ) : Type 0 where
-  aligned : place % 8 ≡ 0
-  near : place ≤ most_rom
-
-start_is_place : (board : BoardState) (harts : List Hart) (h : ℕ) → IsFitBoard board → length harts ≤ 8 → h < length harts → IsStart (slice_index (start_places board harts) h)
-start_is_place board harts h fit few within =
-    let first : ℕ = first_place board harts in
-    ⊎_elim
-    (λ e. let is : slice_index (start_places board harts) h ≡ device_place harts = ap (slice_index (start_places board harts)) e ∙ get_or-set_same (block_places first harts) 0 (device_place harts) 0 (omega (arith, starts_length first harts)) in record { aligned = omega arith; near = omega arith })
-    (λ a. let is : slice_index (start_places board harts) h ≡ slice_index (block_places first harts) h = get_or-set_other (block_places first harts) 0 h (device_place harts) 0 a in
-    record { aligned = ap (λ q. q % 8) is ∙ start_even harts first h (omega (arith, device_even board)) within; near = omega (arith, start_small harts first h within, device_small board fit) })
-    (cases_eq h 0)
-
-pub address_at : (places : List ℕ) (h d : ℕ) → h < length places → get_or (addresses places) h d ≡ rom_base + slice_index places h
-address_at places h d within = get_or-map (λ place. rom_base + place) places h 0 d (omega (arith, length-map places (λ place. rom_base + place)))
-
-addresses_fit : (board : BoardState) (harts : List Hart) → IsFitBoard board → length harts ≤ 8 → All (λ v. v < 2 ^ 64) (addresses (start_places board harts))
-addresses_fit board harts fit few i d within =
-    let inside : i < length harts = omega (arith, addresses_length board harts) in
-    let place : IsStart (slice_index (start_places board harts) i) = start_is_place board harts i fit few inside in
-    omega (arith, address_at (start_places board harts) i d (omega (arith, places_length board harts)), place.near)
-
--- ---- the block of a hart
-
-abbrev pub hart_steps : Hart → ℕ
-hart_steps target = word_count (hart_items target (pool_place (hart_items target))) + 1
-
-pub hart_part : (b : Booting) (h block : ℕ) (target : Hart) → IsTarget target → HasCome b h block (debug_registers target.csrs.hart) → StandAt (hart_bytes target) block b.core.rom → Frees h (hart_steps target) b (freed h (hart_steps target) (unreserved_hart target) b.board b)
-unfolding hart_bytes
-hart_part b h block target fit come there =
-    let k : ℕ = pool_place (hart_items target) in
-    let stands : Laid (hart_items target) Insn.Dret (hart_values target) block b.core.rom = laid (hart_items target) Insn.Dret (hart_values target) block b.core.rom (hart_fixed target) there in
-    let n : ℕ = word_count (hart_items target 0) in
-    let short : n ≤ 165 = hart_short target in
-    let few : length (hart_values target) ≤ 55 = hart_few target in
-    hart_block want_layout b h block k target fit come (record { aligned = come.aligned; even = omega arith; room = omega arith; there = stands.pools }) stands.codes
-
--- ---- the block of the devices
-
-abbrev pub device_steps : BoardState → ℕ → ℕ
-device_steps board next = word_count (device_items (pool_place (λ k. device_items k board (rom_base + next))) board (rom_base + next)) + 1
-
-pub device_part : (b : Booting) (h block next : ℕ) (board : BoardState) (csrs : Registers) → IsFitBoard board → length b.core.harts ≡ hart_count board.clint → b.board ≡ reset_board (hart_count board.clint) → NoneReserves b.core.harts → HasCome b h block csrs → next % 8 ≡ 0 → next ≤ most_rom → StandAt (device_bytes board (rom_base + next)) block b.core.rom →
-    (hart : Hart) × (Leads h (device_steps board next) b (moved h (device_steps board next) hart board b)) × HasCome (moved h (device_steps board next) hart board b) h next csrs
-unfolding device_bytes device_size
-device_part b h block next board csrs fit count fresh free come even within there =
-    let items : ℕ → List Spelling = λ k. device_items k board (rom_base + next) in
-    let k : ℕ = pool_place items in
-    let stands : Laid items (Insn.Jalr 0 1 (pos 0)) (device_values board) block b.core.rom = laid items (Insn.Jalr 0 1 (pos 0)) (device_values board) block b.core.rom (device_fixed board (rom_base + next)) there in
-    let n : ℕ = word_count (device_items 0 board (rom_base + next)) in
-    let size : device_size board ≤ 1616 = device_small board fit in
-    let same : n ≡ word_count (device_items 0 board 0) = device_count board (rom_base + next) in
-    device_block b h block k next board csrs fit count fresh free come even within (record { aligned = come.aligned; even = omega arith; room = omega arith; there = stands.pools }) stands.codes
-
--- ---- harts in debug mode
-
-fresh_length : (n : ℕ) → length (debug_harts n) ≡ n
-unfolding debug_harts
-fresh_length zero = refl
-fresh_length (suc n) = omega (arith, length-append (debug_harts n) (reset_debug_hart n ∷ []), fresh_length n)
-
-fresh_at : (n h : ℕ) (d : Hart) → h < n → get_or (debug_harts n) h d ≡ reset_debug_hart h
-unfolding debug_harts
-fresh_at zero h d below = absurd (omega arith)
-fresh_at (suc n) h d below = ⊎_elim
-    (λ e. ap (λ i. get_or (debug_harts n ++ reset_debug_hart n ∷ []) i d) (e ∙ sym (fresh_length n)) ∙ get_or-append_seam (debug_harts n) (reset_debug_hart n) [] d ∙ ap reset_debug_hart (sym e))
-    (λ a. get_or_append_left (debug_harts n) (reset_debug_hart n ∷ []) d h (omega (arith, fresh_length n)) ∙ fresh_at n h d (omega arith))
-    (cases_eq h n)
-
-fresh_free : (n : ℕ) → All (λ (x : Hart). x.reservation ≡ None) (debug_harts n)
-fresh_free n i d within = ap (λ (x : Hart). x.reservation) (fresh_at n i d (omega (arith, fresh_length n)))
-
--- ---- which harts a running machine has
-
-absent : {A : Type 0} (b : Bool) (x : A) → is_none (cond b (Some x) None) ≡ true → b ≡ false
-absent true x e = absurd (cc)
-absent false x e = refl
-
-not_some : (o : Option DebugRegs) → is_some o ≡ false → o ≡ None
-not_some None e = refl
-not_some (Some d) e = absurd (cc)
-
-all_out : (harts : List Hart) → is_none (position is_in_debug harts) ≡ true → (i : ℕ) (d : Hart) → i < length harts → is_in_debug (get_or harts i d) ≡ false
-all_out harts running i d within =
-    let none : nat_lt (position_or_len is_in_debug harts) (length harts) ≡ false = absent _ _ running in
-    let most : length harts ≤ position_or_len is_in_debug harts = ltb-false _ _ none in
-    fails_before_first is_in_debug harts i d (omega arith)
+use Rattle.rom_gen.proofs.Parts.{IsStart, Parts, address_at, addresses_fit, addresses_length, parts, places_length, start_is_place}
+use Rattle.rom_gen.proofs.BlockRuns.{device_part, device_steps, hart_part, hart_steps}
+use Rattle.rom_gen.proofs.Running.{all_out, fresh_at, fresh_free, fresh_length, not_some}
 
 -- ---- the whole
 
@@ -181,7 +47,7 @@ wanted_of harts h = unreserved_hart (get_or harts h (reset_hart 0 0))
 
 abbrev start_of : BoardState → CoreState → ℕ → Booting
 start_of board core h = record {
-  core = record { harts = half (wanted_of core.harts) (debug_harts (length core.harts)) h; ram = core.ram; rom = rom_bytes board core.harts };
+  core = record { harts = partly (wanted_of core.harts) (debug_harts (length core.harts)) h; ram = core.ram; rom = rom_bytes board core.harts };
   board = boards_of board (length core.harts) h;
   console = [];
   steps = total (steps_of board core.harts) h;
@@ -189,7 +55,7 @@ start_of board core h = record {
 
 begun_hart : (board : BoardState) (core : CoreState) (h : ℕ) → h < length core.harts → hart_of (start_of board core h).core h ≡ reset_debug_hart h
 begun_hart board core h within =
-    half_later (wanted_of core.harts) (debug_harts (length core.harts)) h h (reset_hart 0 0) (omega arith) ∙ fresh_at (length core.harts) h (reset_hart 0 0) within
+    partly_later (wanted_of core.harts) (debug_harts (length core.harts)) h h (reset_hart 0 0) (omega arith) ∙ fresh_at (length core.harts) h (reset_hart 0 0) within
 
 number_is : (h : ℕ) → (debug_registers h).hart ≡ h
 unfolding reset_registers
@@ -201,7 +67,7 @@ begun board core h small within =
     let here : hart_of (start_of board core h).core h ≡ reset_debug_hart h = begun_hart board core h within in
     let stands : Stands (memory_of (start_of board core h).core) (reset_debug_hart h) 0 = record { debugs = refl; at = omega arith; nought = refl; count = refl; small = small } in
     record {
-      inside = omega (arith, half_length (wanted_of core.harts) fresh h, fresh_length (length core.harts));
+      inside = omega (arith, partly_length (wanted_of core.harts) fresh h, fresh_length (length core.harts));
       stands = subst (λ x. Stands (memory_of (start_of board core h).core) x 0) (sym here) stands;
       number = ap (λ (x : Hart). x.csrs.hart) here ∙ number_is h;
     }
@@ -232,7 +98,7 @@ arrives board core h fit kept within =
 -- hart h does its part
 each : (board : BoardState) (core : CoreState) (h : ℕ) → IsFitBoard board → IsKept core → hart_count board.clint ≡ length core.harts → ((i : ℕ) → i < length core.harts → IsTarget (get_or core.harts i (reset_hart 0 0))) → h < length core.harts →
     Frees h (steps_of board core.harts h) (start_of board core h) (at_hart (wanted_of core.harts) (debug_harts (length core.harts)) core.ram (rom_bytes board core.harts) (boards_of board (length core.harts)) (steps_of board core.harts) (suc h))
-unfolding half
+unfolding partly
 each board core zero fit kept count targets within =
     let harts : List Hart = core.harts in
     let n : ℕ = length harts in
@@ -300,7 +166,7 @@ last_board board k (suc n) some = refl
 pub restores : (m : MachineState) → IsFit m → is_running m ≡ true →
     (length (rom_bytes m.board m.core.harts) ≤ most_rom)
     × (boot_harts m.shape.harts (begins_boot (debug_machine m.shape m.taken m.core.ram (rom_bytes m.board m.core.harts))) ≡ record { left = record { core = unreserved m.core; board = m.board; console = []; steps = total (steps_of m.board m.core.harts) m.shape.harts }; fault = None })
-unfolding half
+unfolding partly
 restores m fit running =
     let board : BoardState = m.board in
     let core : CoreState = m.core in
@@ -319,17 +185,17 @@ restores m fit running =
     let in_debug : (harts : List Hart) (i : ℕ) → i < length fresh → is_in_debug (get_or fresh i (reset_hart 0 0)) ≡ true = λ harts i within. ap is_in_debug (fresh_at n i (reset_hart 0 0) (omega (arith, fresh_length n))) in
     let frees = all_free wanted fresh core.ram rom boards steps (in_debug fresh) (λ h within. few_steps board harts h board_fit) (λ h within. each board core h board_fit kept count targets (omega (arith, fresh_length n))) n (omega (arith, fresh_length n)) (omega (arith, fresh_length n)) in
     let begins : rom_while fresh rom ≡ rom = ap (λ c. cond c rom []) (list_any_at is_in_debug fresh 0 (reset_hart 0 0) (omega (arith, fresh_length n)) (in_debug fresh 0 (omega (arith, fresh_length n)))) in
-    let done : half wanted fresh n ≡ map unreserved_hart harts = same_lists _ _ (half_length wanted fresh n ∙ fresh_length n ∙ sym (length-map harts unreserved_hart)) (λ i d within. half_done wanted fresh n i d (omega (arith, half_length wanted fresh n, fresh_length n)) (omega (arith, fresh_length n)) ∙ sym (get_or-map unreserved_hart harts i (reset_hart 0 0) d (omega (arith, half_length wanted fresh n, fresh_length n)))) in
+    let done : partly wanted fresh n ≡ map unreserved_hart harts = same_lists _ _ (partly_length wanted fresh n ∙ fresh_length n ∙ sym (length-map harts unreserved_hart)) (λ i d within. partly_done wanted fresh n i d (omega (arith, partly_length wanted fresh n, fresh_length n)) (omega (arith, fresh_length n)) ∙ sym (get_or-map unreserved_hart harts i (reset_hart 0 0) d (omega (arith, partly_length wanted fresh n, fresh_length n)))) in
     let free : All (λ x. is_in_debug x ≡ false) harts = λ i d within. all_out harts running i d within in
     let all_free_after : All (λ x. is_in_debug x ≡ false) (map unreserved_hart harts) = λ i d within. ap is_in_debug (get_or-map unreserved_hart harts i (reset_hart 0 0) d (omega (arith, length-map harts unreserved_hart))) ∙ all_out harts running i (reset_hart 0 0) (omega (arith, length-map harts unreserved_hart)) in
-    let ends : rom_while (half wanted fresh n) rom ≡ core.rom =
+    let ends : rom_while (partly wanted fresh n) rom ≡ core.rom =
     ap (λ hs. rom_while hs rom) done ∙ ap (λ c. cond c rom []) (list_any_none is_in_debug (map unreserved_hart harts) all_free_after) ∙ sym (kept.closed (list_any_none is_in_debug harts free)) in
     let last : boards n ≡ board = last_board board n n some in (
       (parts board harts board_fit kept.most).small,
       subst (λ k. boot_harts k (record { core = debug_core k core.ram rom; board = reset_board k; console = []; steps = 0 }) ≡ record { left = record { core = unreserved core; board = board; console = []; steps = total steps k }; fault = None }) fit.shape.harts
           (ap (λ r. boot_harts n (record { core = record { harts = fresh; ram = core.ram; rom = r }; board = reset_board n; console = []; steps = 0 })) (sym begins)
           ∙ frees
-          ∙ ap (λ hs. record { left = record { core = record { harts = hs; ram = core.ram; rom = rom_while (half wanted fresh n) rom }; board = boards n; console = []; steps = total steps n }; fault = None }) done
+          ∙ ap (λ hs. record { left = record { core = record { harts = hs; ram = core.ram; rom = rom_while (partly wanted fresh n) rom }; board = boards n; console = []; steps = total steps n }; fault = None }) done
           ∙ ap (λ r. record { left = record { core = record { harts = map unreserved_hart harts; ram = core.ram; rom = r }; board = boards n; console = []; steps = total steps n }; fault = None }) ends
           ∙ ap (λ x. record { left = record { core = unreserved core; board = x; console = []; steps = total steps n }; fault = None }) last),
     )

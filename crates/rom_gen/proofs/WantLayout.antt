@@ -18,7 +18,8 @@ use Rattle.hart_turns.specs.Boot.{Booting}
 use Rattle.rom_gen.specs.ItemEffects.{AllSpelled}
 use Rattle.rom_gen.specs.Items.{Csr, CsrImm, Put, Spelled, Spelling, StandAt, csr, csr_imm, pooled, small, pair}
 use Rattle.rom_gen.specs.Wants.{AllInner, Want, Reg, Control, IsGood, IsLayout, Leaves, hart_all, high_part, is_short, is_small, low_part, pool, put_insns, want_items, want_values, put_values}
-use Rattle.rom_gen.proofs.ItemSteps.{put_is, stand_first}
+use Rattle.rom_gen.proofs.Standing.{put_is}
+use Rattle.rom_gen.proofs.ItemSteps.{stand_first}
 
 -- ---- the parts of a value
 

@@ -140,9 +140,6 @@ hart_written a b c d e f target r numbers v1 v2 v3 same all is1 is2 is3 slots co
     let six : Adds e f (all_insns (want_items next w3)) (want_values w3) = subst (λ k. Adds e f (all_insns (want_items k w3)) (want_values w3)) (offset_on a e (all_insns items) us five) here in
     subst (λ x. Adds a f x (us ++ want_values w3)) (sym (insns_append items (want_items next w3))) (adds_join a e f (all_insns items) (all_insns (want_items next w3)) us (want_values w3) five six)
 
-pub control_room : (a b : Writer) (number v : ℕ) → Adds a b (all_insns (want_items (offset_of a) (Control number v))) (want_values (Control number v)) → offset_of b ≤ offset_of a + 8
-control_room a b number v adds = omega (arith, offset_on a b (all_insns (want_items (offset_of a) (Control number v))) (want_values (Control number v)) adds, control_few number v)
-
 -- ---- a block, drafted for its length and then written
 
 pub drafted : (items : ℕ → List Spelling) (values : List ℕ) (a b : Writer) → ((k : ℕ) → word_count (items k) ≡ word_count (items 0)) → a.code.items ≡ [] → Adds a b (all_insns (items (offset_of a))) values → length b.code.items ≡ 4 * word_count (items 0)
