@@ -1,10 +1,9 @@
 -- The items of a block that reach no device change one hart alone.
-use Rattle.std.proofs.Common.{◌≡◌, ℕ, suc, ◌+◌, ◌<◌, List, [], ◌∷◌, length, refl, sym, ap, ◌∙◌, arith, add_assoc, cond}
-use Rattle.std.specs.Prelude.{Option, None, map, slice_set, All}
+use Rattle.std.proofs.Common.{◌≡◌, ℕ, ◌+◌, ◌<◌, List, [], ◌∷◌, length, refl, sym, ap, ◌∙◌, arith, add_assoc}
+use Rattle.std.specs.Prelude.{slice_set}
 use Rattle.std.proofs.lemmas.List.{get_or-set_same, set-set, length-set, set-get_or}
 use Rattle.hart_step.specs.declared.hart.Hart.{Hart}
 use Rattle.hart_step.specs.Harts.{hart_of, reset_hart}
-use Rattle.hart_step.specs.Step.{is_touched, without_reservation}
 use Rattle.hart_turns.specs.Boot.{Booting}
 use Rattle.rom_gen.specs.Items.{Item, Put, Csr, CsrImm, Store, Load, Go, Spelling, word_count, Leave}
 use Rattle.rom_gen.specs.ItemEffects.{all_do, becomes, does, hart_after}
@@ -40,10 +39,3 @@ inner_block h (s ∷ rest) b inside inner =
     ∙ inner_block h rest b1 (omega (arith, length-set b.core.harts h next)) inner.1
     ∙ ap (λ x. becomes h (word_count rest) (hart_all rest x) b1) here
     ∙ becomes_again h n (word_count rest) next (hart_all rest next) b
-
--- harts without reservations lose none
-pub nothing_lost : (at size : ℕ) (harts : List Hart) → All (λ (x : Hart). x.reservation ≡ None) harts → map (without_reservation at size) harts ≡ harts
-nothing_lost at size [] none = refl
-nothing_lost at size (x ∷ harts) none =
-    let head : without_reservation at size x ≡ x = ap (λ (o : Option ℕ). cond (is_touched at size o) (record x { reservation = None }) x) (none 0 x (omega arith)) in
-    ap (λ y. y ∷ map (without_reservation at size) harts) head ∙ ap (λ ys. x ∷ ys) (nothing_lost at size harts (λ i d within. none (suc i) d (omega arith)))

@@ -210,9 +210,9 @@ dispatches starts most fit b h within begun there =
       entry = entry_stands starts 24 h b.core.rom within tail;
     })
 
--- a hart without a reservation has come to where it was sent
-pub sent_comes : (b : Booting) (h place : ℕ) (csrs : Registers) → HasBegun b h → place % 8 ≡ 0 → place ≤ most_rom → (hart_of b.core h).csrs ≡ csrs → (hart_of b.core h).reservation ≡ None → HasCome (becomes h 6 (sent_on h (rom_base + place) (hart_of b.core h)) b) h place csrs
-sent_comes b h place csrs begun aligned near csrs_are none =
+-- a hart has come to where it was sent
+pub sent_comes : (b : Booting) (h place : ℕ) (csrs : Registers) → HasBegun b h → place % 8 ≡ 0 → place ≤ most_rom → (hart_of b.core h).csrs ≡ csrs → HasCome (becomes h 6 (sent_on h (rom_base + place) (hart_of b.core h)) b) h place csrs
+sent_comes b h place csrs begun aligned near csrs_are =
     let hart : Hart = hart_of b.core h in
     let v : ℕ = rom_base + place in
     let next : Hart = sent_on h v hart in
@@ -230,7 +230,6 @@ sent_comes b h place csrs begun aligned near csrs_are none =
       inside = omega (arith, begun.inside, length-set b.core.harts h next);
       stands = subst (λ x. Stands (memory_of b.core) x place) (sym end) stands;
       csrs_are = ap (λ (x : Hart). x.csrs) end ∙ csrs_are;
-      reservation = ap (λ (x : Hart). x.reservation) end ∙ none;
       at = ap (λ (x : Hart). register x 1) end ∙ get_or-set_other (slice_set hart.x 1 v) 2 1 (8 * h) 0 (omega arith) ∙ get_or-set_same hart.x 1 v 0 (omega arith);
       aligned = aligned;
     }

@@ -66,11 +66,11 @@ freed_moved h n m first hart one two b =
 abbrev pub block_items : (ℕ → Want → List Spelling) → (Want → List ℕ) → ℕ → Hart → List Spelling
 block_items spell values off target = placed spell values off (first_wants target) ++ spell (off + 8 * length (all_values values (first_wants target))) (Reg 1 (slice_index target.x 1))
 
-pub hart_block : {spell : ℕ → Want → List Spelling} {values : Want → List ℕ} → IsLayout spell values → (b : Booting) (h block off : ℕ) (target : Hart) → IsTarget target → HasCome b h block (debug_registers target.csrs.hart) →
+pub hart_block : {spell : ℕ → Want → List Spelling} {values : Want → List ℕ} → IsLayout spell values → (b : Booting) (h block off : ℕ) (target : Hart) → IsTarget target → HasCome b h block (debug_registers target.csrs.hart) → (hart_of b.core h).reservation ≡ None →
     Pooled block off (all_values values (first_wants target) ++ values (Reg 1 (slice_index target.x 1))) b.core.rom →
     StandAt (code (all_insns (block_items spell values off target)) ++ code (Insn.Dret ∷ [])) block b.core.rom →
     Frees h (word_count (block_items spell values off target) + 1) b (freed h (word_count (block_items spell values off target) + 1) (unreserved_hart target) b.board b)
-hart_block {spell = spell} {values = values} layout b h block off target fit come pooled codes =
+hart_block {spell = spell} {values = values} layout b h block off target fit come own pooled codes =
     let hart : Hart = hart_of b.core h in
     let ws : List Want = first_wants target in
     let l : Want = Reg 1 (slice_index target.x 1) in
@@ -115,7 +115,7 @@ hart_block {spell = spell} {values = values} layout b h block off target fit com
     ∙ ap (λ (x : Hart). x.x) (hart_append (placed spell values off (controls target)) (placed spell values off3 (registers target)) hart)
     ∙ numbered_x layout off3 30 2 target.x hart0 fit.good_registers (but2.count ∙ come.stands.count) in
     let xs : hart2.x ≡ target.x = ap (λ (x : Hart). x.x) is2 ∙ leaves2.x ∙ ap (λ ys. slice_set ys 1 (slice_index target.x 1)) x1 ∙ x_restored target.x hart.x hart0.x fit.count come.stands.count fit.nought come.stands.nought but2 in
-    let none : hart2.reservation ≡ None = ap (λ (x : Hart). x.reservation) is2 ∙ leaves2.reservation ∙ kept.2 ∙ come.reservation in
+    let none : hart2.reservation ≡ None = ap (λ (x : Hart). x.reservation) is2 ∙ leaves2.reservation ∙ kept.2 ∙ own in
     let here2 : hart_of b2.core h ≡ hart2 = get_or-set_same b.core.harts h hart2 (reset_hart 0 0) come.inside in
     let end : Hart = hart_of b2.core h in
     let next : Hart = unreserved_hart target in

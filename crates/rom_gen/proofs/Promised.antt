@@ -14,7 +14,7 @@ use Rattle.rom_gen.specs.Executed.{IsPlace, RestoresDevices, RestoresHart}
 use Rattle.rom_gen.specs.Laws.{DevicesRestored, RegistersRestored, RomsRestore}
 use Rattle.rom_gen.proofs.Assembly.{rom_restores}
 use Rattle.rom_gen.proofs.Deeds.{Did}
-use Rattle.rom_gen.proofs.DeviceEnd.{devices_done}
+use Rattle.rom_gen.proofs.DeviceEnd.{devices_done, Led}
 use Rattle.rom_gen.proofs.HartBlock.{IsTarget}
 use Rattle.rom_gen.proofs.HartWants.{controls_restore}
 use Rattle.rom_gen.proofs.Placed.{placed_csrs}
@@ -27,17 +27,17 @@ use Rattle.rom_gen.proofs.WantLayout.{want_layout}
 -- ---- the blocks
 
 pub hart_restored : (target : Hart) (at : ℕ) → IsWellFormed target → target.csrs.debug ≡ None → RestoresHart target at (hart_bytes target)
-hart_restored target at form out b h place at_is come there =
+hart_restored target at form out b h place at_is come none there =
     let few : hart_steps target ≤ most_steps = omega (arith, hart_fixed target (pool_place (hart_items target)), hart_short target) in
-    (hart_steps target, few, hart_part b h place target (is_target target form out) come there)
+    (hart_steps target, few, hart_part b h place target (is_target target form out) come none there)
 
 pub board_restored : (board : BoardState) (at next : ℕ) → IsFit board → IsPlace next → RestoresDevices board at next (device_bytes board next)
-board_restored board at next fit is_place b h place after csrs at_is next_is come there count fresh free =
+board_restored board at next fit is_place b h place after csrs at_is next_is come there count fresh =
     let even : after % 8 ≡ 0 = omega (arith, is_place.aligned) in
     let near : after ≤ most_rom = omega (arith, is_place.high) in
     let few : device_steps board after < most_steps = omega (arith, device_fixed board (rom_base + after) (pool_place (λ off. device_items off board (rom_base + after))), device_words board (rom_base + after) fit) in
-    let part = device_part b h place after board csrs fit count fresh free come even near (subst (λ v. StandAt (device_bytes board v) place b.core.rom) next_is there) in
-    (device_steps board after, part.0, few, part.1, part.2)
+    let part : Led b h (device_steps board after) after csrs board = device_part b h place after board csrs fit count fresh come even near (subst (λ v. StandAt (device_bytes board v) place b.core.rom) next_is there) in
+    (device_steps board after, part.harts, few, part.leads, part.come, part.stay)
 
 -- ---- the laws
 
@@ -49,8 +49,8 @@ registers_restored_lem target hart off form out csrs_are count =
     ∙ controls_restore target good.csrs good.pc
 
 pub devices_restored_lem : DevicesRestored
-devices_restored_lem b h place off csrs target fit come pooled count fresh free =
-    let did : Did b h place _ _ csrs target = devices_done b h place off target csrs fit count fresh free come pooled in
+devices_restored_lem b h place off csrs target fit come pooled count fresh =
+    let did : Did b h place _ _ csrs target = devices_done b h place off target csrs fit count fresh come pooled in
     (did.spelled, ap (λ (x : Booting). x.board) did.is, ap (λ (x : Booting). x.console) did.is)
 
 pub roms_restore_lem : RomsRestore

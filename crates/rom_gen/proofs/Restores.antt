@@ -1,6 +1,6 @@
 -- Booting from the ROM restores the machine.
-use Rattle.std.proofs.Common.{◌≡◌, ℕ, zero, suc, ◌+◌, ◌<◌, ◌≤◌, true, false, cond, List, [], length, refl, sym, ap, ◌∙◌, arith, subst, map}
-use Rattle.std.specs.Prelude.{All, None, slice_index}
+use Rattle.std.proofs.Common.{◌≡◌, ℕ, zero, suc, ◌+◌, ◌<◌, ◌≤◌, true, false, cond, List, [], length, refl, sym, ap, ◌∙◌, arith, subst, map, add_assoc}
+use Rattle.std.specs.Prelude.{All, None, slice_index, slice_set}
 use Rattle.std.proofs.Math.ListN.{get_or}
 use Rattle.std.proofs.lemmas.List.{get_or-map, get_or-set_same, get_or-set_other, length-map, length-set, same_lists}
 use Rattle.std.proofs.lemmas.List.Elements.{All-set}
@@ -21,7 +21,7 @@ use Rattle.hart_step.specs.DebugReset.{debug_registers, debug_core, debug_harts,
 use Rattle.rom_gen.specs.Rom.{device_items, device_place, first_place, hart_bytes, hart_items, start_places, pool_place, rom_bytes, block_places, addresses}
 use Rattle.rom_gen.proofs.AllHarts.{all_free, at_hart, partly, partly_done, partly_later, partly_length, total}
 use Rattle.rom_gen.proofs.Dispatched.{dispatches, sent_comes}
-use Rattle.rom_gen.specs.Executed.{HasCome, HasBegun, sent_on}
+use Rattle.rom_gen.specs.Executed.{HasCome, HasBegun, sent_on, Stay}
 use Rattle.rom_gen.proofs.HartBlock.{IsTarget, freed_moved}
 use Rattle.hart_turns.proofs.BootSteps.{frees_join, leads_join}
 use Rattle.rom_gen.proofs.RomParts.{device_even, device_fixed, device_small, device_words, first_start, hart_fixed, hart_short, starts_length}
@@ -31,6 +31,8 @@ use Rattle.csr_file.specs.declared.registers.Registers.{Registers}
 use Rattle.rom_gen.proofs.Parts.{IsStart, Parts, address_at, addresses_fit, addresses_length, parts, places_length, start_is_place}
 use Rattle.rom_gen.proofs.BlockRuns.{device_part, device_steps, hart_part, hart_steps}
 use Rattle.rom_gen.proofs.Running.{all_out, fresh_at, fresh_free, fresh_length, not_some}
+use Rattle.rom_gen.proofs.DeviceEnd.{Led}
+use Rattle.rom_gen.proofs.Stays.{stay_free}
 
 -- ---- the whole
 
@@ -77,6 +79,7 @@ record Arrived (board : BoardState) (core : CoreState) (h place : ℕ) (csrs : R
   next : Hart
   leads : Leads h 6 (start_of board core h) (becomes h 6 next (start_of board core h))
   come : HasCome (becomes h 6 next (start_of board core h)) h place csrs
+  none : next.reservation ≡ None
 
 arrives : (board : BoardState) (core : CoreState) (h : ℕ) → IsFitBoard board → IsKept core → h < length core.harts → Arrived board core h (slice_index (start_places board core.harts) h) (debug_registers h)
 arrives board core h fit kept within =
@@ -92,8 +95,15 @@ arrives board core h fit kept within =
       next = sent_on h (rom_base + slice_index (start_places board harts) h) (hart_of b.core h);
       leads = subst (λ v. Leads h 6 b (becomes h 6 (sent_on h v (hart_of b.core h)) b)) at
           (dispatches starts (omega (arith, addresses_length board harts, kept.most)) (addresses_fit board harts fit kept.most) b h (omega (arith, addresses_length board harts)) begins ps.dispatch);
-      come = sent_comes b h (slice_index (start_places board harts) h) (debug_registers h) begins start.aligned start.near (ap (λ (x : Hart). x.csrs) here) (ap (λ (x : Hart). x.reservation) here);
+      come = sent_comes b h (slice_index (start_places board harts) h) (debug_registers h) begins start.aligned start.near (ap (λ (x : Hart). x.csrs) here);
+      none = ap (λ (x : Hart). x.reservation) here;
     }
+
+-- a hart that is freed after the block of the devices, where no hart had a reservation
+freed_led : (h n m : ℕ) (harts : List Hart) (hart : Hart) (board : BoardState) (b : Booting) → h < length b.core.harts → All (λ (x : Hart). x.reservation ≡ None) b.core.harts → Stay h b.core.harts harts → freed h m hart board (moved n harts board b) ≡ freed h (n + m) hart board b
+freed_led h n m harts hart board b inside none stay =
+    ap (λ hs. record { core = record { harts = hs; ram = b.core.ram; rom = rom_while hs b.core.rom }; board = board; console = b.console; steps = b.steps + n + m }) (stay_free h b.core.harts harts hart inside none stay)
+    ∙ ap (λ k. record { core = record { harts = slice_set b.core.harts h hart; ram = b.core.ram; rom = rom_while (slice_set b.core.harts h hart) b.core.rom }; board = board; console = b.console; steps = k }) (add_assoc b.steps n m)
 
 -- hart h does its part
 each : (board : BoardState) (core : CoreState) (h : ℕ) → IsFitBoard board → IsKept core → hart_count board.clint ≡ length core.harts → ((i : ℕ) → i < length core.harts → IsTarget (get_or core.harts i (reset_hart 0 0))) → h < length core.harts →
@@ -114,22 +124,23 @@ each board core zero fit kept count targets within =
     let b1 : Booting = becomes 0 6 next b in
     let at : slice_index (start_places board harts) 0 ≡ device_place harts = get_or-set_same (block_places first harts) 0 (device_place harts) 0 (omega (arith, starts_length first harts)) in
     let come1 : HasCome b1 0 (device_place harts) (debug_registers 0) = subst (λ p. HasCome b1 0 p (debug_registers 0)) at arrived.come in
-    let none : next.reservation ≡ None = ap (λ (x : Hart). x.reservation) (sym (get_or-set_same (debug_harts n) 0 next (reset_hart 0 0) (omega (arith, fresh_length n)))) ∙ come1.reservation in
+    let none : next.reservation ≡ None = arrived.none in
+    let here : hart_of b1.core 0 ≡ next = get_or-set_same (debug_harts n) 0 next (reset_hart 0 0) (omega (arith, fresh_length n)) in
     let free1 : All (λ (x : Hart). x.reservation ≡ None) b1.core.harts = All-set (λ (x : Hart). x.reservation ≡ None) (debug_harts n) 0 next none (fresh_free n) in
     let harts1 : length b1.core.harts ≡ hart_count board.clint = length-set (debug_harts n) 0 next ∙ fresh_length n ∙ sym count in
-    let devices = device_part b1 0 (device_place harts) first board (debug_registers 0) fit harts1 (ap reset_board (sym count)) free1 come1 (omega (arith, device_even board)) (omega (arith, device_small board fit)) ps.device in
+    let devices : Led b1 0 (device_steps board first) first (debug_registers 0) board = device_part b1 0 (device_place harts) first board (debug_registers 0) fit harts1 (ap reset_board (sym count)) come1 (omega (arith, device_even board)) (omega (arith, device_small board fit)) ps.device in
     let m : ℕ = device_steps board first in
     let w : ℕ = hart_steps owner in
-    let second : Hart = devices.0 in
-    let b2 : Booting = moved 0 m second board b1 in
+    let b2 : Booting = moved m devices.harts board b1 in
     let stands : StandAt (hart_bytes owner) first rom = subst (λ p. StandAt (hart_bytes owner) p rom) (first_start harts first within) (ps.blocks 0 (reset_hart 0 0) within) in
-    let come2 : HasCome b2 0 first (debug_registers owner.csrs.hart) = subst (λ k. HasCome b2 0 first (debug_registers k)) (sym number) devices.2 in
-    let frees : Frees 0 w b2 (freed 0 w (unreserved_hart owner) board b2) = hart_part b2 0 first owner (targets 0 within) come2 stands in
+    let come2 : HasCome b2 0 first (debug_registers owner.csrs.hart) = subst (λ k. HasCome b2 0 first (debug_registers k)) (sym number) devices.come in
+    let own : (hart_of b2.core 0).reservation ≡ None = devices.stay.own ∙ ap (λ (x : Hart). x.reservation) here ∙ none in
+    let frees : Frees 0 w b2 (freed 0 w (unreserved_hart owner) board b2) = hart_part b2 0 first owner (targets 0 within) come2 own stands in
     let same : freed 0 w (unreserved_hart owner) board b2 ≡ freed 0 (6 + m + w) (unreserved_hart owner) board b =
-    freed_moved 0 m w second (unreserved_hart owner) board board b1
+    freed_led 0 m w devices.harts (unreserved_hart owner) board b1 come1.inside free1 devices.stay
     ∙ freed_moved 0 6 (m + w) next (unreserved_hart owner) (reset_board n) board b
     ∙ ap (λ k. freed 0 k (unreserved_hart owner) board b) (omega arith) in
-    subst (λ x. Frees 0 (6 + m + w) b x) same (frees_join 0 (6 + m) w b b2 _ (leads_join 0 6 m b b1 b2 arrived.leads devices.1) frees)
+    subst (λ x. Frees 0 (6 + m + w) b x) same (frees_join 0 (6 + m) w b b2 _ (leads_join 0 6 m b b1 b2 arrived.leads devices.leads) frees)
 each board core (suc g) fit kept count targets within =
     let h : ℕ = suc g in
     let harts : List Hart = core.harts in
@@ -146,7 +157,8 @@ each board core (suc g) fit kept count targets within =
     let at : slice_index (start_places board harts) h ≡ slice_index (block_places first harts) h = get_or-set_other (block_places first harts) 0 h (device_place harts) 0 (omega arith) in
     let come1 : HasCome b1 h (slice_index (block_places first harts) h) (debug_registers owner.csrs.hart) = subst (λ k. HasCome b1 h (slice_index (block_places first harts) h) (debug_registers k)) (sym number) (subst (λ p. HasCome b1 h p (debug_registers h)) at arrived.come) in
     let w : ℕ = hart_steps owner in
-    let frees : Frees h w b1 (freed h w (unreserved_hart owner) board b1) = hart_part b1 h (slice_index (block_places first harts) h) owner (targets h within) come1 (ps.blocks h (reset_hart 0 0) within) in
+    let own : (hart_of b1.core h).reservation ≡ None = ap (λ (x : Hart). x.reservation) (get_or-set_same b.core.harts h next (reset_hart 0 0) (begun board core h ps.small within).inside) ∙ arrived.none in
+    let frees : Frees h w b1 (freed h w (unreserved_hart owner) board b1) = hart_part b1 h (slice_index (block_places first harts) h) owner (targets h within) come1 own (ps.blocks h (reset_hart 0 0) within) in
     let same : freed h w (unreserved_hart owner) board b1 ≡ freed h (6 + w) (unreserved_hart owner) board b = freed_moved h 6 w next (unreserved_hart owner) board board b in
     subst (λ x. Frees h (6 + w) b x) same (frees_join h 6 w b b1 _ arrived.leads frees)
 

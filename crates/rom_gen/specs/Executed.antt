@@ -1,11 +1,11 @@
 -- What is promised of a boot ROM and of its parts: what executing them does to a machine on its way through a boot.
-use Rattle.std.specs.Prelude.{◌≡◌, None, ℕ, ◌+◌, ◌*◌, ◌%◌, ◌<◌, ◌≤◌, All, List, [], length, slice_index, slice_set}
+use Rattle.std.specs.Prelude.{◌≡◌, ◌≢◌, None, ℕ, ◌+◌, ◌*◌, ◌%◌, ◌<◌, ◌≤◌, List, [], length, slice_index, slice_index_or, slice_set}
 use Rattle.csr_file.specs.declared.registers.Registers.{Registers}
 use Rattle.board_bus.specs.Board.{BoardState, hart_count, reset_board}
 use Rattle.hart_step.specs.declared.hart.Hart.{Hart}
 use Rattle.hart_step.specs.DebugReset.{debug_registers}
 use Rattle.hart_step.specs.Effects.{even_part}
-use Rattle.hart_step.specs.Harts.{hart_of, register}
+use Rattle.hart_step.specs.Harts.{hart_of, register, reset_hart}
 use Rattle.hart_step.specs.Memory.{most_rom, rom_base}
 use Rattle.hart_step.specs.Step.{memory_of, unreserved_hart}
 use Rattle.hart_turns.specs.Boot.{Booting, Boots, Frees, Leads, most_steps}
@@ -28,17 +28,20 @@ pub record IsPlace (at : ℕ) : Type 0 where
   pub high : at < rom_base + most_rom
   pub aligned : at % 8 ≡ 0
 
--- hart h has come to a block, which begins at a place of the ROM: x1 has its address. No reservation is held there
+-- hart h has come to a block, which begins at a place of the ROM: x1 has its address
 pub record HasCome (b : Booting) (h place : ℕ) (csrs : Registers) : Type 0 where
   pub inside : h < length b.core.harts
   pub stands : Stands (memory_of b.core) (hart_of b.core h) place
   pub csrs_are : (hart_of b.core h).csrs ≡ csrs
-  pub reservation : (hart_of b.core h).reservation ≡ None
   pub at : register (hart_of b.core h) 1 ≡ rom_base + place
   pub aligned : place % 8 ≡ 0
 
-abbrev pub NoneReserves : List Hart → Type 0
-NoneReserves harts = All (λ hart. hart.reservation ≡ None) harts
+-- what the stores of hart h to devices leave of all harts: its own reservation stays, and the others lose theirs at most
+pub record Stay (h : ℕ) (before after : List Hart) : Type 0 where
+  pub count : length after ≡ length before
+  pub own : (slice_index_or after h (reset_hart 0 0)).reservation ≡ (slice_index_or before h (reset_hart 0 0)).reservation
+  pub others : (i : ℕ) (d : Hart) → i ≢ h → i < length before → unreserved_hart (slice_index_or after i d) ≡ unreserved_hart (slice_index_or before i d)
+  pub free : (i : ℕ) (d : Hart) → i ≢ h → i < length before → (slice_index_or before i d).reservation ≡ None → (slice_index_or after i d).reservation ≡ None
 
 -- hart h, whose number that is, is about to execute the first word of the ROM
 pub record HasBegun (b : Booting) (h : ℕ) : Type 0 where
@@ -57,16 +60,16 @@ Dispatches starts bytes =
     Leads h 6 b (becomes h 6 (sent_on h (slice_index starts h) (hart_of b.core h)) b)
 
 -- executing this block makes the devices of this board out of devices at reset, sends nothing and leads on to `next`,
--- whose address x1 then has. It is for harts without reservations, as are all at reset: a store takes reservations
+-- whose address x1 then has. The other harts stay as they are, but for reservations that the stores take
 abbrev pub RestoresDevices : BoardState → ℕ → ℕ → List ℕ → Type 0
 RestoresDevices board at next bytes =
     (b : Booting) (h place after : ℕ) (csrs : Registers) → at ≡ rom_base + place → next ≡ rom_base + after → HasCome b h place csrs →
-    StandAt bytes place b.core.rom → length b.core.harts ≡ hart_count board → b.board ≡ reset_board (hart_count board) → NoneReserves b.core.harts →
-    (n : ℕ) × (hart : Hart) × (n < most_steps) × Leads h n b (moved h n hart board b) × HasCome (moved h n hart board b) h after csrs
+    StandAt bytes place b.core.rom → length b.core.harts ≡ hart_count board → b.board ≡ reset_board (hart_count board) →
+    (n : ℕ) × (harts : List Hart) × (n < most_steps) × Leads h n b (moved n harts board b) × HasCome (moved n harts board b) h after csrs × Stay h b.core.harts harts
 
 -- executing this block makes this hart, without a reservation, out of one with its number at reset in debug mode, and
 -- frees it
 abbrev pub RestoresHart : Hart → ℕ → List ℕ → Type 0
 RestoresHart target at bytes =
-    (b : Booting) (h place : ℕ) → at ≡ rom_base + place → HasCome b h place (debug_registers target.csrs.hart) → StandAt bytes place b.core.rom →
+    (b : Booting) (h place : ℕ) → at ≡ rom_base + place → HasCome b h place (debug_registers target.csrs.hart) → (hart_of b.core h).reservation ≡ None → StandAt bytes place b.core.rom →
     (n : ℕ) × (n ≤ most_steps) × Frees h n b (freed h n (unreserved_hart target) b.board b)

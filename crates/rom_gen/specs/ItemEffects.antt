@@ -21,9 +21,9 @@ use Rattle.rom_gen.specs.Items.{Item, Put, Csr, CsrImm, Store, Load, Go, Leave, 
 abbrev pub becomes : ℕ → ℕ → Hart → Booting → Booting
 becomes h n hart b = record b { core = record b.core { harts = slice_set b.core.harts h hart }; steps = b.steps + n }
 
--- and the devices others
-abbrev pub moved : ℕ → ℕ → Hart → BoardState → Booting → Booting
-moved h n hart board b = record { core = record b.core { harts = slice_set b.core.harts h hart }; board = board; console = b.console; steps = b.steps + n }
+-- the harts and the devices become others, and nothing is sent
+abbrev pub moved : ℕ → List Hart → BoardState → Booting → Booting
+moved n harts board b = record { core = record b.core { harts = harts }; board = board; console = b.console; steps = b.steps + n }
 
 -- the ROM while one of these harts is in debug mode; afterwards it is empty
 abbrev pub rom_while : List Hart → List ℕ → List ℕ

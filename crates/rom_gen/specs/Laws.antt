@@ -23,7 +23,7 @@ use Rattle.rom_gen.specs.Wants.{Pooled, hart_all, placed, want_items, want_value
 use Rattle.rom_gen.specs.HartWants.{controls}
 use Rattle.rom_gen.specs.Deeds.{all_deed_values, placed_deeds}
 use Rattle.rom_gen.specs.DeviceBlock.{device_deeds}
-use Rattle.rom_gen.specs.Executed.{HasCome, NoneReserves, Restores}
+use Rattle.rom_gen.specs.Executed.{HasCome, Restores}
 
 -- where a hart in debug mode stands at a spelling of an item, as many steps as it has words do what the item does, none
 -- of them an exception, and send its bytes
@@ -54,7 +54,7 @@ RegistersRestored =
 abbrev pub DevicesRestored : Type 0
 DevicesRestored =
     (b : Booting) (h place off : ℕ) (csrs : Registers) (target : BoardState) → board.IsFit target → HasCome b h place csrs → Pooled place off (all_deed_values (device_deeds target)) b.core.rom →
-    length b.core.harts ≡ hart_count target → b.board ≡ reset_board (hart_count target) → NoneReserves b.core.harts →
+    length b.core.harts ≡ hart_count target → b.board ≡ reset_board (hart_count target) →
     AllSpelled h place (placed_deeds off (device_deeds target)) b
     × ((all_do h (placed_deeds off (device_deeds target)) b).board ≡ target)
     × ((all_do h (placed_deeds off (device_deeds target)) b).console ≡ b.console)
