@@ -54,6 +54,7 @@ at_hart wanted fresh ram rom boards count n = record {
   steps = total count n;
 }
 
+-- harts that are each freed within the most steps, one after another
 pub all_free : (wanted : ℕ → Hart) (fresh : List Hart) (ram rom : List ℕ) (boards : ℕ → BoardState) (count : ℕ → ℕ) →
     ((h : ℕ) → h < length fresh → is_in_debug (get_or fresh h (reset_hart 0 0)) ≡ true) →
     ((h : ℕ) → h < length fresh → count h ≤ most_steps) →

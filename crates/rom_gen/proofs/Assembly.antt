@@ -65,14 +65,17 @@ start_added board harts i v n first before old new within n_is first_is before_i
     let v_is : v ≡ slice_index starts i = start_at board harts i v within given ∙ sym (address_at (start_places board harts) i 0 (omega (arith, places_length board harts))) in
     new_is ∙ ap (λ x. x ++ v ∷ []) old_is ∙ ap (λ x. take i starts ++ x ∷ []) v_is ∙ sym (take_more starts i 0 (omega (arith, addresses_length board harts)))
 
+-- one block more
 pub blocks_go_on : (harts : List Hart) (i : ℕ) (board : Hart) (old block new : List ℕ) → i < length harts → board ≡ get_or harts i (reset_hart 0 0) → old ≡ all_blocks (take i harts) → block ≡ hart_bytes board → new ≡ old ++ block → new ≡ all_blocks (take (i + 1) harts)
 blocks_go_on harts i board old block new within t_is old_is block_is new_is =
     new_is ∙ ap (λ x. x ++ block) old_is ∙ ap (λ x. all_blocks (take i harts) ++ x) (block_is ∙ ap hart_bytes t_is)
     ∙ sym (ap all_blocks (take_more harts i (reset_hart 0 0) within) ∙ blocks_more (take i harts) (get_or harts i (reset_hart 0 0)))
 
+-- and so many bytes more at the most
 pub blocks_grow : (i : ℕ) (board : Hart) (old block new : List ℕ) → block ≡ hart_bytes board → new ≡ old ++ block → length old ≤ 1112 * i → length new ≤ 1112 * (i + 1)
 blocks_grow i board old block new block_is new_is room = omega (arith, ap length new_is, length-append old block, ap length block_is, hart_length board, hart_small board)
 
+-- the six words, as numbers
 pub dispatch_is : (a b c d e f g : List ℕ) → b ≡ a ++ little_bytes 4 0x00000097 → c ≡ b ++ little_bytes 4 0xf1402173 → d ≡ c ++ little_bytes 4 0x00311113 → e ≡ d ++ little_bytes 4 0x002080b3 → f ≡ e ++ little_bytes 4 0x0180b083 → g ≡ f ++ little_bytes 4 0x00008067 → g ≡ a ++ code dispatch_insns
 unfolding encoded word_r word_long
 dispatch_is a b c d e f g e1 e2 e3 e4 e5 e6 =
@@ -83,11 +86,13 @@ dispatch_is a b c d e f g e1 e2 e3 e4 e5 e6 =
     ∙ append_assoc (a ++ little_bytes 4 0x00000097) (little_bytes 4 0xf1402173) (little_bytes 4 0x00311113 ++ (little_bytes 4 0x002080b3 ++ (little_bytes 4 0x0180b083 ++ little_bytes 4 0x00008067)))
     ∙ append_assoc a (little_bytes 4 0x00000097) (little_bytes 4 0xf1402173 ++ (little_bytes 4 0x00311113 ++ (little_bytes 4 0x002080b3 ++ (little_bytes 4 0x0180b083 ++ little_bytes 4 0x00008067))))
 
+-- there are as many starts as harts
 pub starts_count : (board : BoardState) (harts : List Hart) (starts : List ℕ) (n : ℕ) → n ≡ length harts → starts ≡ take n (addresses (start_places board harts)) → length starts ≡ length harts
 starts_count board harts starts n n_is is =
     let all : List ℕ = addresses (start_places board harts) in
     ap length (is ∙ ap (λ k. take k all) (n_is ∙ sym (addresses_length board harts)) ∙ take-length all) ∙ addresses_length board harts
 
+-- the parts make the ROM
 pub rom_assembled : (board : BoardState) (harts : List Hart) (first : ℕ) (starts dispatch device blocks b c : List ℕ) → first ≡ rom_base + first_place board harts → starts ≡ take (length harts) (addresses (start_places board harts)) → dispatch ≡ dispatch_bytes starts → device ≡ device_bytes board first → blocks ≡ all_blocks (take (length harts) harts) → b ≡ dispatch ++ device → c ≡ b ++ blocks → c ≡ rom_bytes board harts
 rom_assembled board harts first starts dispatch device blocks b c first_is starts_is dispatch_is device_is blocks_is b_is c_is =
     let all : List ℕ = addresses (start_places board harts) in

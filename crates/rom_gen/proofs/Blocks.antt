@@ -18,6 +18,7 @@ inner_does h n (Store size r at off) b inner = absurd inner
 inner_does h n (Load size r at off) b inner = absurd inner
 inner_does h n Leave b inner = absurd inner
 
+-- a hart that becomes another twice
 pub becomes_again : (h n m : ℕ) (first second : Hart) (b : Booting) → becomes h m second (becomes h n first b) ≡ becomes h (n + m) second b
 becomes_again h n m first second b =
     ap (λ hs. record b { core = record b.core { harts = hs }; steps = b.steps + n + m }) (set-set b.core.harts h first second)
@@ -28,6 +29,7 @@ becomes_itself h b =
     ap (λ hs. record b { core = record b.core { harts = hs }; steps = b.steps + 0 }) (set-get_or b.core.harts h (reset_hart 0 0))
     ∙ ap (λ k. record b { steps = k }) (omega arith)
 
+-- items that reach no device change their hart alone
 pub inner_block : (h : ℕ) (items : List Spelling) (b : Booting) → h < length b.core.harts → AllInner items → all_do h items b ≡ becomes h (word_count items) (hart_all items (hart_of b.core h)) b
 inner_block h [] b inside inner = sym (becomes_itself h b)
 inner_block h (s ∷ rest) b inside inner =

@@ -34,6 +34,7 @@ save_as : (z : Bool) (a d : Writer) (w : Width) (v by : ℕ) (off : ℤ) → z �
 save_as true a d w v by off is adds = absurd (cc)
 save_as false a d w v by off is adds = subst (λ x. Adds a d (put_insns (offset_of a) 6 v ++ store_insn w by 6 off ∷ []) x) (append-nil (put_values v)) adds
 
+-- a value that is saved through x6
 pub save_adds : (a b d : Writer) (w : Width) (v by n : ℕ) (off : ℤ) → v ≢ 0 → Adds a b (put_insns (offset_of a) 6 v) (put_values v) → n ≡ encoded (store_insn w by 6 off) → d.code.items ≡ b.code.items ++ little_bytes 4 n → d.pool.items ≡ b.pool.items → d.place ≡ b.place → Adds a d (all_insns (deed_items (offset_of a) (Save w v by off 0))) (deed_values (Save w v by off 0))
 save_adds a b d w v by n off some put is code_is pool_is place_is =
     save_as (v == 0) a d w v by off (ne_eqb v 0 some) (adds_join a b d (put_insns (offset_of a) 6 v) (store_insn w by 6 off ∷ []) (put_values v) [] put (one_adds b d (store_insn w by 6 off) n is code_is pool_is place_is))
@@ -52,9 +53,11 @@ deed_values_append : (a c : List Deed) → all_deed_values (a ++ c) ≡ all_deed
 deed_values_append [] c = refl
 deed_values_append (d ∷ a) c = ap (λ x. deed_values d ++ x) (deed_values_append a c) ∙ sym (append_assoc (deed_values d) (all_deed_values a) (all_deed_values c))
 
+-- nothing was dealt
 pub dealt_none : (a : Writer) → Dealt a a []
 dealt_none a = record { code = sym (append-nil a.code.items); pool = sym (append-nil a.pool.items); place = refl }
 
+-- deeds and then more
 pub dealt_join : (a b c : Writer) (ds enables : List Deed) → Dealt a b ds → Dealt b c enables → Dealt a c (ds ++ enables)
 dealt_join a b c ds enables one two =
     let next : ℕ = offset_of a + 8 * length (all_deed_values ds) in
@@ -195,6 +198,7 @@ apart target =
 pub saved_as : (a b : Writer) (w : Width) (v x by at : ℕ) (off : ℤ) → v ≡ x → Adds a b (all_insns (deed_items (offset_of a) (Save w v by off 0))) (deed_values (Save w v by off 0)) → Dealt a b (Save w x by off at ∷ [])
 saved_as a b w v x by at off is adds = subst (λ z. Dealt a b (Save w z by off at ∷ [])) is (dealt_one a b w v by at off adds)
 
+-- all deeds of the block
 pub devices_dealt : (target : BoardState) (v0 v1 v2 v3 v4 v5 v6 v7 v8 v9 v10 v11 v12 v13 : Writer) → Dealt v0 v1 (marks_deeds target.plic.served []) → Dealt v1 v2 (queue_deeds target.console.queue []) → Dealt v2 v3 (Save Word (slice_index target.plic.priority 0) 3 (pos 4) 0xc000004 ∷ []) → Dealt v3 v4 (Save Word (slice_index target.plic.priority 1) 3 (pos 8) 0xc000008 ∷ []) → Dealt v4 v5 (context_deeds (contexts_of target.plic) 0 target.plic.enable target.plic.threshold []) → Dealt v5 v6 (Save Word target.console.ctrl 2 (pos 8) 0x10000008 ∷ []) → Dealt v6 v7 (Save Double target.console.txaddr 2 (pos 16) 0x10000010 ∷ []) → Dealt v7 v8 (Aim 5 0x2000000 ∷ []) → Dealt v8 v9 (soft_deeds (hart_count target.clint) 0 target.clint.msip []) → Dealt v9 v10 (Aim 7 0x2004000 ∷ []) → Dealt v10 v11 (compare_deeds (hart_count target.clint) 0 target.clint.mtimecmp []) → Dealt v11 v12 (Aim 5 0x200c000 ∷ []) → Dealt v12 v13 (Save Double target.clint.mtime 5 (negsuc 7) 0x200bff8 ∷ []) → Dealt v0 v13 (device_deeds target)
 devices_dealt target v0 v1 v2 v3 v4 v5 v6 v7 v8 v9 v10 v11 v12 v13 p1 p2 p3 p4 p5 p6 p7 p8 p9 p10 p11 p12 p13 =
     let n : ℕ = hart_count target.clint in
@@ -236,6 +240,7 @@ devices_dealt target v0 v1 v2 v3 v4 v5 v6 v7 v8 v9 v10 v11 v12 v13 p1 p2 p3 p4 p
 pub far_adds : (a b d : Writer) (v n m : ℕ) → n ≡ encoded (Insn.Lui 1 (high_part v)) → m ≡ encoded (Insn.Addiw 1 1 (low_part v)) → b.code.items ≡ a.code.items ++ little_bytes 4 n → b.pool.items ≡ a.pool.items → b.place ≡ a.place → d.code.items ≡ b.code.items ++ little_bytes 4 m → d.pool.items ≡ b.pool.items → d.place ≡ b.place → Adds a d (far_insns v) []
 far_adds a b d v n m n_is m_is c1 p1 l1 c2 p2 l2 = adds_join a b d (Insn.Lui 1 (high_part v) ∷ []) (Insn.Addiw 1 1 (low_part v) ∷ []) [] [] (one_adds a b (Insn.Lui 1 (high_part v)) n n_is c1 p1 l1) (one_adds b d (Insn.Addiw 1 1 (low_part v)) m m_is c2 p2 l2)
 
+-- the block's items: its deeds, and the address at which it goes on
 pub device_adds : (target : BoardState) (next : ℕ) (a b d : Writer) → Dealt a b (device_deeds target) → Adds b d (far_insns next) [] → Adds a d (all_insns (device_items (offset_of a) target next)) (device_values target)
 device_adds target next a b d dealt far =
     let items : List Spelling = placed_deeds (offset_of a) (device_deeds target) in

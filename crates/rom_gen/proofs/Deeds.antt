@@ -37,10 +37,12 @@ pub record WorksHart (hart : Hart) (block : ℕ) (known : Known) (csrs : Registe
   pub has : (r : ℕ) → 1 < r → r < 8 → register hart r ≡ known r
   pub csrs_are : hart.csrs ≡ csrs
 
+-- and its machine
 pub record Works (b : Booting) (h block : ℕ) (known : Known) (csrs : Registers) : Type 0 where
   pub inside : h < length b.core.harts
   pub hart : WorksHart (hart_of b.core h) block known csrs
 
+-- the items of some deeds are spelled where they are met, make this board, and keep the hart at work
 pub record Did (b : Booting) (h block : ℕ) (items : List Spelling) (known : Known) (csrs : Registers) (board : BoardState) : Type 0 where
   pub harts : List Hart
   pub spelled : AllSpelled h block items b
@@ -65,6 +67,7 @@ has_set xs r v known count r_fits has q low high = ⊎_elim
     (λ n. get_or-set_other xs r q v 0 n ∙ has q low high ∙ ap (λ b. cond b v (known q)) (sym (ne_eqb q r n)))
     (cases_eq q r)
 
+-- the hart after a Put
 pub put_works : (hart : Hart) (block r v next : ℕ) (known : Known) (csrs : Registers) → 1 < r → r < 32 → WorksHart hart block known csrs → WorksHart (with_write hart r v next) block (knows r v known) csrs
 put_works hart block r v next known csrs some r_fits works = subst (λ x. WorksHart x block (knows r v known) csrs) (sym (put_is hart r v next (omega arith))) (record {
   count = length-set hart.x r v ∙ works.count;
@@ -201,6 +204,7 @@ nothing_did b h block known csrs works =
     let e : moved 0 b.core.harts b.board b ≡ b = ap (λ k. record b { steps = k }) (omega arith) in
     record { harts = b.core.harts; spelled = tt; is = sym e; works = subst (λ x. Works x h block known csrs) (sym e) works; stay = stay_same h b.core.harts }
 
+-- deeds that lead to a board do so where they are executed
 pub deeds_do : (ds : List Deed) (n : ℕ) (b : Booting) (h block k : ℕ) (known : Known) (csrs : Registers) (board : BoardState) → length b.core.harts ≡ n → Works b h block known csrs → Runs n b.core.ram known b.board ds board → Pooled block k (all_deed_values ds) b.core.rom → Did b h block (placed_deeds k ds) (known_all b.board ds known) csrs board
 deeds_do [] n b h block k known csrs board count works runs pooled = subst (λ x. Did b h block [] known csrs x) runs (nothing_did b h block known csrs works)
 deeds_do (d ∷ ds) n b h block k known csrs board count works runs pooled =

@@ -29,6 +29,7 @@ pub record Points (five seven : ℕ) (known : Known) : Type 0 where
   pub five_is : known 5 ≡ five
   pub seven_is : known 7 ≡ seven
 
+-- a deed that goes through x6 keeps the base registers
 pub points_six : (c : Bool) (five seven v : ℕ) (known : Known) → Points five seven known → Points five seven (cond c known (knows 6 v known))
 points_six true five seven v known p = p
 points_six false five seven v known p = record { two = p.two; three = p.three; four = p.four; five_is = p.five_is; seven_is = p.seven_is }
@@ -61,6 +62,7 @@ up a small = (omega (arith, ints), omega (arith, ints))
 
 -- ---- the queue
 
+-- each byte enters the queue, in loop mode
 pub queue_runs : (q : List ℕ) (rest : List Deed) (n : ℕ) (ram : List ℕ) (five seven : ℕ) (known : Known) (b b' : BoardState) → Points five seven known → b.console.ctrl ≡ 7 → length b.console.queue + length q ≤ 16 → All (λ x. x < 256) q →
     ((known' : Known) → Points five seven known' → Runs n ram known' (record b { console = record b.console { queue = b.console.queue ++ q } }) rest b') → Runs n ram known b (queue_deeds q rest) b'
 unfolding queue_deeds
@@ -86,6 +88,7 @@ within_small e fits = four_masks (λ m. m < 8) e fits (omega arith) (omega arith
 pub enable_twice : (e : ℕ) → IsWithinSources e → bit_and (low_bytes 4 (low_bytes 4 e)) source_bits ≡ e
 enable_twice e fits = four_masks (λ m. bit_and (low_bytes 4 (low_bytes 4 m)) source_bits ≡ m) e fits refl refl refl refl
 
+-- each context gets its enable bits and its threshold
 pub context_runs : (k c : ℕ) (enables thresholds : List ℕ) (rest : List Deed) (n : ℕ) (ram : List ℕ) (five seven : ℕ) (known : Known) (b b' : BoardState) → Points five seven known → c + k ≤ 2 * n → n ≤ 8 → context_count b.plic ≡ 2 * n → ((i : ℕ) → i < 2 * n → IsWithinSources (slice_index enables i)) → ((i : ℕ) → i < 2 * n → slice_index thresholds i ≤ 7) →
     ((five' : ℕ) (known' : Known) → Points five' seven known' → Runs n ram known' (record b { plic = record b.plic { enable = put_x k c enables b.plic.enable; threshold = put_x k c thresholds b.plic.threshold } }) rest b') → Runs n ram known b (context_deeds k c enables thresholds rest) b'
 unfolding context_deeds put_x
@@ -122,6 +125,7 @@ context_runs (suc k) c enables thresholds rest n ram five seven known b b' point
 
 -- ---- msip and mtimecmp
 
+-- each hart its msip
 pub soft_runs : (k h : ℕ) (xs : List ℕ) (rest : List Deed) (n : ℕ) (ram : List ℕ) (seven : ℕ) (known : Known) (b b' : BoardState) → Points 0x2000000 seven known → h + k ≤ n → n ≤ 8 → hart_count b.clint ≡ n → ((i : ℕ) → i < n → slice_index xs i ≤ 1) →
     ((known' : Known) → Points 0x2000000 seven known' → Runs n ram known' (record b { clint = record b.clint { msip = put_x k h xs b.clint.msip } }) rest b') → Runs n ram known b (soft_deeds k h xs rest) b'
 unfolding soft_deeds put_x
@@ -138,6 +142,7 @@ soft_runs (suc k) h xs rest n ram seven known b b' points within most count bits
     is
     (soft_runs k (suc h) xs rest n ram seven (cond (x == 0) known (knows 6 x known)) b1 b' (points_six (x == 0) 0x2000000 seven x known points) (omega arith) most (length-set b.clint.msip h x ∙ count) bits then_rest)
 
+-- and its mtimecmp
 pub compare_runs : (k h : ℕ) (xs : List ℕ) (rest : List Deed) (n : ℕ) (ram : List ℕ) (five : ℕ) (known : Known) (b b' : BoardState) → Points five 0x2004000 known → h + k ≤ n → n ≤ 8 → hart_count b.clint ≡ n → ((i : ℕ) → i < n → slice_index xs i < 2 ^ 64) →
     ((known' : Known) → Points five 0x2004000 known' → Runs n ram known' (record b { clint = record b.clint { mtimecmp = put_x k h xs b.clint.mtimecmp } }) rest b') → Runs n ram known b (compare_deeds k h xs rest) b'
 unfolding compare_deeds put_x

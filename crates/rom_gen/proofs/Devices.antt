@@ -57,6 +57,7 @@ pub leave_effect : (given : Given) (n word : ℕ) (hart : Hart) (memory : Memory
 unfolding effect
 leave_effect given n word hart memory debugs = rw debugs refl
 
+-- the step of dret
 pub leave_step : (given : Given) (n h : ℕ) (hart : Hart) (memory : MemoryState) (p : ℕ) (rest : List ℕ) → Stands memory hart p → given.interrupt ≡ None → drop p memory.rom ≡ little_bytes 4 (encoded Insn.Dret) ++ rest → Does memory (hart_step given n h hart memory) None (resumed (debug_returned hart.csrs) (resumed_mode hart.csrs.debug) (resumed_pc hart.csrs.debug) hart) Untouched
 unfolding encoded
 leave_step given n h hart memory p rest stands none there =

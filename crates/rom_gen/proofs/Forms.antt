@@ -51,6 +51,7 @@ no_device n at size low =
 
 -- ---- ld of a pool's value
 
+-- the load gives the value that stands in the pool
 pub pooled_effect : (given : Given) (n : ℕ) (hart : Hart) (memory : MemoryState) (word r v block off : ℕ) → is_in_debug hart ≡ true → v < 2 ^ 64 → (block + off) % 8 ≡ 0 → off < 2048 → length memory.rom ≤ most_rom → register hart 1 ≡ rom_base + block → StandAt (little_bytes 8 v) (block + off) memory.rom → effect given n 4 word (Insn.Ld r 1 (pos off)) hart memory ≡ writes r v (pc_after hart 4) hart memory
 unfolding effect
 pooled_effect given n hart memory word r v block off debugs fits aligned near small at there =
@@ -131,6 +132,7 @@ store_effect given Byte n word r at off hart memory = refl
 store_effect given Word n word r at off hart memory = refl
 store_effect given Double n word r at off hart memory = refl
 
+-- a store of any width
 pub store_step : (w : Width) (given : Given) (n h : ℕ) (hart : Hart) (memory : MemoryState) (p r at : ℕ) (off : ℤ) (rest : List ℕ) → Stands memory hart p → given.interrupt ≡ None → r < 32 → at < 32 → IsSigned 12 off → offset_by (register hart at) off % size_of w ≡ 0 → offset_by (register hart at) off < base → is_device n (offset_by (register hart at) off) (size_of w) ≡ true → drop p memory.rom ≡ little_bytes 4 (encoded (store_insn w at r off)) ++ rest → Does memory (hart_step given n h hart memory) (Some (record { at = offset_by (register hart at) off; size = size_of w; value = low_bytes (size_of w) (register hart r) })) (at_pc hart (pc_after hart 4)) (Stores (offset_by (register hart at) off) (size_of w) (low_bytes (size_of w) (register hart r)))
 store_step w given n h hart memory p r at off rest stands none r_fits at_fits is_signed aligned below device there =
     let word : ℕ = encoded (store_insn w at r off) in
@@ -174,6 +176,7 @@ load_effect given Byte n word r at off hart memory e = rw e refl
 load_effect given Word n word r at off hart memory e = rw e refl
 load_effect given Double n word r at off hart memory e = rw e refl
 
+-- and a load
 pub load_step : (w : Width) (given : Given) (n h : ℕ) (hart : Hart) (memory : MemoryState) (p r at : ℕ) (off : ℤ) (rest : List ℕ) → Stands memory hart p → given.interrupt ≡ None → r < 32 → at < 32 → IsSigned 12 off → offset_by (register hart at) off % size_of w ≡ 0 → offset_by (register hart at) off < base → is_device n (offset_by (register hart at) off) (size_of w) ≡ true → drop p memory.rom ≡ little_bytes 4 (encoded (load_insn w r at off)) ++ rest → Does memory (hart_step given n h hart memory) None (with_write hart r (extended (size_of w) (given.device (offset_by (register hart at) off) (size_of w))) (pc_after hart 4)) (Loads (offset_by (register hart at) off) (size_of w))
 load_step w given n h hart memory p r at off rest stands none r_fits at_fits is_signed aligned below device there =
     let word : ℕ = encoded (load_insn w r at off) in

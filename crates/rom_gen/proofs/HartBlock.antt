@@ -57,6 +57,7 @@ pub insns_count : (items : List Spelling) → length (all_insns items) ≡ word_
 insns_count [] = refl
 insns_count (s ∷ items) = length-append s.insns (all_insns items) ∙ ap (λ k. length s.insns + k) (insns_count items)
 
+-- a hart that is freed after it became another
 pub freed_moved : (h n m : ℕ) (first hart : Hart) (one two : BoardState) (b : Booting) → freed h m hart two (record { core = record b.core { harts = slice_set b.core.harts h first }; board = one; console = b.console; steps = b.steps + n }) ≡ freed h (n + m) hart two b
 freed_moved h n m first hart one two b =
     ap (λ hs. record { core = record { harts = hs; ram = b.core.ram; rom = rom_while hs b.core.rom }; board = two; console = b.console; steps = b.steps + n + m }) (set-set b.core.harts h first hart)
@@ -66,6 +67,7 @@ freed_moved h n m first hart one two b =
 abbrev pub block_items : (ℕ → Want → List Spelling) → (Want → List ℕ) → ℕ → Hart → List Spelling
 block_items spell values off target = placed spell values off (first_wants target) ++ spell (off + 8 * length (all_values values (first_wants target))) (Reg 1 (slice_index target.x 1))
 
+-- the block frees the hart that it was made from
 pub hart_block : {spell : ℕ → Want → List Spelling} {values : Want → List ℕ} → IsLayout spell values → (b : Booting) (h block off : ℕ) (target : Hart) → IsTarget target → HasCome b h block (debug_registers target.csrs.hart) → (hart_of b.core h).reservation ≡ None →
     Pooled block off (all_values values (first_wants target) ++ values (Reg 1 (slice_index target.x 1))) b.core.rom →
     StandAt (code (all_insns (block_items spell values off target)) ++ code (Insn.Dret ∷ [])) block b.core.rom →

@@ -49,6 +49,7 @@ AllControl [] = Unit {0}
 AllControl (Reg r v ∷ rest) = ⊥
 AllControl (Control number v ∷ rest) = AllControl rest
 
+-- the control and status registers change x2 at the most
 pub controls_x : {spell : ℕ → Want → List Spelling} {values : Want → List ℕ} → IsLayout spell values → (off : ℕ) (ws : List Want) (hart : Hart) → AllControl ws → AllGood ws → length hart.x ≡ 32 → SameBut2 hart.x (hart_all (placed spell values off ws) hart).x
 controls_x layout off [] hart all good count = record { count = refl; others = λ j other. refl }
 controls_x layout off (Reg r v ∷ ws) hart all good count = absurd all
@@ -69,6 +70,7 @@ unfoldable pub put_x : ℕ → ℕ → List ℕ → List ℕ → List ℕ
 put_x zero i wanted xs = xs
 put_x (suc n) i wanted xs = put_x n (suc i) wanted (slice_set xs i (slice_index wanted i))
 
+-- x registers are put one after another
 pub numbered_x : {spell : ℕ → Want → List Spelling} {values : Want → List ℕ} → IsLayout spell values → (off n i : ℕ) (wanted : List ℕ) (hart : Hart) → AllGood (numbered n i wanted) → length hart.x ≡ 32 → (hart_all (placed spell values off (numbered n i wanted)) hart).x ≡ put_x n i wanted hart.x
 unfolding numbered put_x
 numbered_x layout off zero i wanted hart good count = refl

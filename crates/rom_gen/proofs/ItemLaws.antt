@@ -20,6 +20,7 @@ sends h n (Load size r at off) b = sym (append-nil b.console)
 sends h n (Go r) b = sym (append-nil b.console)
 sends h n Leave b = sym (append-nil b.console)
 
+-- one item
 pub item_steps_lem : ItemSteps
 item_steps_lem b h place block item insns inside stands spelled there = (item_steps b h place block item insns inside stands spelled there, sends h (length insns) item b)
 
@@ -57,5 +58,6 @@ items_move b h place block (s ∷ rest) inside stands spelled followed there =
     last_or_more h s rest b (item_steps b h place block s.item s.insns inside stands spelled.0 first) followed
     (λ follows more. items_move b1 h (place + 4 * n) block rest (omega (arith, inside, harts_same b h n s.item)) (stands_after b h place block s.item s.insns inside stands spelled.0 within follows) spelled.1 more (second follows))
 
+-- a list of them
 pub items_join_lem : ItemsJoin
 items_join_lem b h place block items inside stands spelled followed there = (items_move b h place block items inside stands spelled followed there, all_send h items b)

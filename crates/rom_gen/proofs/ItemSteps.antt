@@ -60,6 +60,7 @@ quiet_load b h at size hart = ap (λ c. record { core = record b.core { harts = 
 pub quiet : (b : Booting) (h : ℕ) (hart : Hart) → acted h None hart b.core.rom Untouched b ≡ becomes h 1 hart b
 quiet b h hart = ap (λ c. record { core = record b.core { harts = slice_set b.core.harts h hart }; board = b.board; console = c; steps = b.steps + 1 }) (append-nil b.console)
 
+-- a step that reaches no device
 pub leads_quiet : (b : Booting) (h : ℕ) (hart next : Hart) → h < length b.core.harts → hart_of b.core h ≡ hart → is_in_debug hart ≡ true → is_in_debug next ≡ true → ((given : Given) → given.interrupt ≡ None → Does (memory_of b.core) (hart_step given (length b.core.harts) h hart (memory_of b.core)) None next Untouched) → Leads h 1 b (becomes h 1 next b)
 leads_quiet b h hart next inside is debugs still step = subst (λ x. Leads h 1 b x) (quiet b h next) (leads_at b h hart next None Untouched inside is debugs still step)
 
@@ -90,6 +91,7 @@ leave_frees b h p inside stands there =
 
 -- ---- the law
 
+-- by cases on the spelling
 pub item_steps : (b : Booting) (h p block : ℕ) (item : Item) (insns : List Insn) → h < length b.core.harts → Stands (memory_of b.core) (hart_of b.core h) p → Spelled (length b.core.harts) (memory_of b.core) (hart_of b.core h) block item insns → StandAt (code insns) p b.core.rom → Moves (is_leave item) h (length insns) b (does h (length insns) item b)
 item_steps b h p block _ _ inside stands (small r v imm some r_fits is_signed is) there =
     let hart : Hart = hart_of b.core h in
@@ -236,6 +238,7 @@ followed_leads (Load size r at off) follows h n b b' moves = moves
 followed_leads (Go r) follows h n b b' moves = absurd follows
 followed_leads Leave follows h n b b' moves = absurd follows
 
+-- items behind each of which the next is executed
 pub items_lead : (b : Booting) (h p block : ℕ) (items : List Spelling) → h < length b.core.harts → Stands (memory_of b.core) (hart_of b.core h) p → AllSpelled h block items b → AllFollowed items → StandAt (code (all_insns items)) p b.core.rom → Leads h (word_count items) b (all_do h items b) × Stands (memory_of (all_do h items b).core) (hart_of (all_do h items b).core h) (p + 4 * word_count items)
 items_lead b h p block [] inside stands spelled stays there = (none_lead h b, subst (λ q. Stands (memory_of b.core) (hart_of b.core h) q) (let e : p ≡ p + 0 = omega arith in e) stands)
 items_lead b h p block (s ∷ rest) inside stands spelled stays there =

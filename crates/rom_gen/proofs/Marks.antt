@@ -45,6 +45,7 @@ served_count : (s : ℕ) (r : PlicRegisters) → context_count (with_served s r)
 unfolding with_served
 served_count s r = either_count (s == 0) r _ refl
 
+-- two claims, of a controller that has both sources pending, serve the sources that it enables
 pub marks_set : (clint : ClintRegisters) (enables thresholds : List ℕ) (m : ℕ) → 0 < length enables → length enables ≤ 16 → IsWithinSources m →
     let b3 : BoardState = record { clint = clint; plic = record { priority = 1 ∷ 1 ∷ []; enable = slice_set enables 0 m; threshold = thresholds; served = 0 }; console = record { queue = 0 ∷ []; ctrl = 7; txaddr = 0 } } in
     after_load (after_load b3 0xc200004 4) 0xc200004 4 ≡ record b3 { plic = record b3.plic { served = m } }

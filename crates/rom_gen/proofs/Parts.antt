@@ -32,6 +32,7 @@ dispatch_length board harts =
     let starts : List ℕ = addresses (start_places board harts) in
     omega (arith, length-append (code dispatch_insns) (table starts), code_length dispatch_insns, table_length starts, addresses_length board harts)
 
+-- they stand one behind the other
 pub parts : (board : BoardState) (harts : List Hart) → IsFitBoard board → length harts ≤ 8 → Parts board harts (rom_bytes board harts)
 parts board harts fit few =
     let first : ℕ = first_place board harts in
@@ -56,6 +57,7 @@ pub record IsStart (place : ℕ) : Type 0 where
   pub aligned : place % 8 ≡ 0
   pub near : place ≤ most_rom
 
+-- each start is a place of the ROM, at a multiple of 8
 pub start_is_place : (board : BoardState) (harts : List Hart) (h : ℕ) → IsFitBoard board → length harts ≤ 8 → h < length harts → IsStart (slice_index (start_places board harts) h)
 start_is_place board harts h fit few within =
     let first : ℕ = first_place board harts in

@@ -47,6 +47,7 @@ pub all_inner : {spell : ℕ → Want → List Spelling} {values : Want → List
 all_inner layout off [] = tt
 all_inner {spell = spell} {values = values} layout off (w ∷ ws) = inner_append (spell off w) (placed spell values (off + 8 * length (values w)) ws) (layout.inner off w) (all_inner layout (off + 8 * length (values w)) ws)
 
+-- a list of wants is spelled where its pool stands
 pub placed_spelled : {spell : ℕ → Want → List Spelling} {values : Want → List ℕ} → IsLayout spell values → (h block off : ℕ) (b : Booting) (ws : List Want) → AllGood ws → AllKeep ws → h < length b.core.harts → length (hart_of b.core h).x ≡ 32 → register (hart_of b.core h) 1 ≡ rom_base + block → block % 8 ≡ 0 → off % 8 ≡ 0 → off + 8 * length (all_values values ws) ≤ 2048 → StandAt (pool (all_values values ws)) (block + off) b.core.rom → AllSpelled h block (placed spell values off ws) b
 placed_spelled layout h block off b [] good keep inside count at aligned even room there = tt
 placed_spelled {spell = spell} {values = values} layout h block off b (w ∷ ws) good keep inside count at aligned even room there =

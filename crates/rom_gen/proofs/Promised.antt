@@ -26,11 +26,13 @@ use Rattle.rom_gen.proofs.WantLayout.{want_layout}
 
 -- ---- the blocks
 
+-- that of a hart
 pub hart_restored : (target : Hart) (at : ℕ) → IsWellFormed target → target.csrs.debug ≡ None → RestoresHart target at (hart_bytes target)
 hart_restored target at form out b h place at_is come none there =
     let few : hart_steps target ≤ most_steps = omega (arith, hart_fixed target (pool_place (hart_items target)), hart_short target) in
     (hart_steps target, few, hart_part b h place target (is_target target form out) come none there)
 
+-- that of the devices
 pub board_restored : (board : BoardState) (at next : ℕ) → IsFit board → IsPlace next → RestoresDevices board at next (device_bytes board next)
 board_restored board at next fit is_place b h place after csrs at_is next_is come there count fresh =
     let even : after % 8 ≡ 0 = omega (arith, is_place.aligned) in

@@ -16,6 +16,7 @@ abbrev pub put_back : Registers → List Slot → Registers → Registers
 put_back target [] r = r
 put_back target (s ∷ rest) r = put_back target rest (written s.number (kept_value s.number target) r)
 
+-- each register keeps a legal value, whatever was written before
 pub kept_back : (target : Registers) → IsFit target → put_back target kept_slots (debug_registers target.hart) ≡ record target { debug = Some reset_debug_registers }
 unfolding kept_slots written kept_value with_kept reset_registers
 kept_back target f = rw (f.mstatus, f.medeleg, f.mideleg, f.mie, f.mtvec, f.mcounteren, f.menvcfg, f.mscratch, f.mepc, f.mcause, f.mtval, f.mip, f.stvec, f.scounteren, f.senvcfg, f.sscratch, f.sepc, f.scause, f.stval, f.satp, f.mcycle, f.minstret) refl
@@ -26,6 +27,7 @@ legal_control old Mode.U = refl
 legal_control old Mode.S = refl
 legal_control old Mode.M = refl
 
+-- and so do the two that dret reads
 pub debug_back : (target : Registers) (mode : Mode) (pc : ℕ) → ((old : ℕ) → legal csr_dpc old pc ≡ pc) → written csr_dpc pc (written csr_dcsr (dcsr_fixed + level mode) (record target { debug = Some reset_debug_registers })) ≡ record target { debug = Some (record reset_debug_registers { dcsr = dcsr_fixed + level mode; dpc = pc }) }
 unfolding written with_kept with_debug_kept kept_value
 debug_back target mode pc keeps = rw (legal_control, keeps) refl

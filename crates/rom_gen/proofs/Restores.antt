@@ -175,6 +175,7 @@ last_board : (board : BoardState) (k n : ℕ) → 0 < n → boards_of board k n 
 last_board board k zero some = absurd (omega arith)
 last_board board k (suc n) some = refl
 
+-- the whole
 pub restores : (m : MachineState) → IsFit m → is_running m ≡ true →
     (length (rom_bytes m.board m.core.harts) ≤ most_rom)
     × (boot_harts m.shape.harts (begins_boot (debug_machine m.shape m.taken m.core.ram (rom_bytes m.board m.core.harts))) ≡ record { left = record { core = unreserved m.core; board = m.board; console = []; steps = total (steps_of m.board m.core.harts) m.shape.harts }; fault = None })

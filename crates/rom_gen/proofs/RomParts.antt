@@ -31,6 +31,7 @@ padding_length : (n : ℕ) (b : Bool) → (n % 2 == 0) ≡ b → length (code (c
 padding_length n true is = let e : n % 2 ≡ 0 = eqb-true (n % 2) 0 is in omega arith
 padding_length n false is = let e : n % 2 ≢ 0 = (λ z. cc (is, eq-eqb (n % 2) 0 z)) in omega arith
 
+-- the code of a block and its pool, where they stand
 pub record Laid (items : ℕ → List Spelling) (last : Insn) (values : List ℕ) (block : ℕ) (rom : List ℕ) : Type 0 where
   pub codes : StandAt (code (all_insns (items (pool_place items))) ++ code (last ∷ [])) block rom
   pub pools : StandAt (pool values) (block + pool_place items) rom
@@ -40,12 +41,14 @@ front_length items last fixed =
     let k : ℕ = pool_place items in
     length-append (code (all_insns (items k))) (code (last ∷ [])) ∙ ap (λ n. n + 4) (code_length (all_insns (items k)) ∙ ap (λ n. 4 * n) (insns_count (items k) ∙ fixed k)) ∙ omega arith
 
+-- how long a block is
 pub block_length : (items : ℕ → List Spelling) (last : Insn) (values : List ℕ) → ((k : ℕ) → word_count (items k) ≡ word_count (items 0)) → length (block_bytes items last values) ≡ block_size items values
 block_length items last values fixed =
     let front : List ℕ = code (all_insns (items (pool_place items))) ++ code (last ∷ []) in
     let pad : List ℕ = code (padding (block_words items)) in
     omega (arith, length-append front (pad ++ pool values), length-append pad (pool values), front_length items last fixed, padding_length (block_words items) (block_words items % 2 == 0) refl, pool_length values)
 
+-- a block's parts, from its bytes
 pub laid : (items : ℕ → List Spelling) (last : Insn) (values : List ℕ) (block : ℕ) (rom : List ℕ) → ((k : ℕ) → word_count (items k) ≡ word_count (items 0)) → StandAt (block_bytes items last values) block rom → Laid items last values block rom
 laid items last values block rom fixed there =
     let front : List ℕ = code (all_insns (items (pool_place items))) ++ code (last ∷ []) in
@@ -57,6 +60,7 @@ laid items last values block rom fixed there =
 
 -- ---- a hart's block
 
+-- as many words wherever its pool stands
 pub hart_fixed : (target : Hart) (k : ℕ) → word_count (hart_items target k) ≡ word_count (hart_items target 0)
 hart_fixed target k =
     let ws : List Want = first_wants target in
@@ -78,6 +82,7 @@ wants_length target =
     let a : List Want = slot_wants target.csrs kept_slots in
     omega (arith, length-append (controls target) (registers target), length-append a (Control csr_dcsr (dcsr_fixed + level target.mode) ∷ Control csr_dpc target.pc ∷ []), slots_length target, numbered_length 30 2 target.x)
 
+-- few words, so few steps
 pub hart_short : (target : Hart) → word_count (hart_items target 0) ≤ 165
 hart_short target =
     let ws : List Want = first_wants target in
@@ -102,6 +107,7 @@ values_few : (ws : List Want) → length (all_values want_values ws) ≤ length 
 values_few [] = omega arith
 values_few (w ∷ ws) = omega (arith, length-append (want_values w) (all_values want_values ws), one_value w, values_few ws)
 
+-- and few values
 pub hart_few : (target : Hart) → length (hart_values target) ≤ 55
 hart_few target = omega (arith, length-append (all_values want_values (first_wants target)) (want_values (Reg 1 (slice_index target.x 1))), values_few (first_wants target), one_value (Reg 1 (slice_index target.x 1)), wants_length target)
 
@@ -143,11 +149,13 @@ deeds_fixed k k' (d ∷ ds) =
     let next' : ℕ = k' + 8 * length (deed_values d) in
     omega (arith, count_append (deed_items k d) (placed_deeds next ds), count_append (deed_items k' d) (placed_deeds next' ds), deed_fixed k d, deed_fixed k' d, deeds_fixed next next' ds)
 
+-- as many words wherever its pool stands
 pub device_fixed : (target : BoardState) (next k : ℕ) → word_count (device_items k target next) ≡ word_count (device_items 0 target next)
 device_fixed target next k =
     let last : List Spelling = record { item = Put 1 next; insns = far_insns next } ∷ [] in
     omega (arith, count_append (placed_deeds k (device_deeds target)) last, count_append (placed_deeds 0 (device_deeds target)) last, deeds_fixed k 0 (device_deeds target))
 
+-- and wherever it goes on
 pub device_count : (target : BoardState) (next : ℕ) → word_count (device_items 0 target next) ≡ word_count (device_items 0 target 0)
 device_count target next = count_append (placed_deeds 0 (device_deeds target)) (record { item = Put 1 next; insns = far_insns next } ∷ []) ∙ sym (count_append (placed_deeds 0 (device_deeds target)) (record { item = Put 1 0; insns = far_insns 0 } ∷ []))
 

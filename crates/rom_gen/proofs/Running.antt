@@ -40,6 +40,7 @@ pub not_some : (o : Option DebugRegs) → is_some o ≡ false → o ≡ None
 not_some None e = refl
 not_some (Some d) e = absurd (cc)
 
+-- no hart of a running machine is in debug mode
 pub all_out : (harts : List Hart) → is_none (position is_in_debug harts) ≡ true → (i : ℕ) (d : Hart) → i < length harts → is_in_debug (get_or harts i d) ≡ false
 all_out harts running i d within =
     let none : nat_lt (position_or_len is_in_debug harts) (length harts) ≡ false = absent _ _ running in

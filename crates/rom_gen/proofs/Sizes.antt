@@ -5,6 +5,7 @@ use Rattle.rv_decode.specs.declared.Insn.{Insn}
 use Rattle.rom_gen.specs.Items.{Csr, CsrImm, Put, Spelling, word_count}
 use Rattle.rom_gen.specs.Wants.{Want, Reg, Control, high_part, is_short, is_small, low_part, placed, put_insns, want_items}
 
+-- a layout in which a want has at most three words, as many at every offset
 pub record IsSized (spell : ℕ → Want → List Spelling) : Type 0 where
   pub short : (off : ℕ) (w : Want) → word_count (spell off w) ≤ 3
   pub fixed : (off : ℕ) (w : Want) → word_count (spell off w) ≡ word_count (spell 0 w)

@@ -15,9 +15,11 @@ use Rattle.rom_gen.specs.ItemEffects.{becomes}
 
 -- ---- how a hart stands after an item
 
+-- a write to a register that is not x0
 pub put_is : (hart : Hart) (r v next : ℕ) → 0 < r → with_write hart r v next ≡ record hart { x = slice_set hart.x r v; pc = next }
 put_is hart r v next some = ap (λ c. record (cond c hart (record hart { x = slice_set hart.x r v })) { pc = next }) (ne_eqb r 0 (omega arith))
 
+-- after a Put the hart stands behind its words
 pub stands_put : (memory : MemoryState) (hart : Hart) (p k r v : ℕ) → Stands memory hart p → 0 < r → p + k ≤ length memory.rom → Stands memory (with_write hart r v (pc_after hart k)) (p + k)
 stands_put memory hart p k r v stands some within = subst (λ x. Stands memory x (p + k)) (sym (put_is hart r v (pc_after hart k) some)) (record {
   debugs = stands.debugs;
@@ -27,6 +29,7 @@ stands_put memory hart p k r v stands some within = subst (λ x. Stands memory x
   small = stands.small;
 })
 
+-- after a write of a control and status register too
 pub stands_on : (memory : MemoryState) (hart : Hart) (p k : ℕ) (csrs : Registers) → Stands memory hart p → is_some csrs.debug ≡ true → p + k ≤ length memory.rom → Stands memory (record hart { csrs = csrs; pc = pc_after hart k }) (p + k)
 stands_on memory hart p k csrs stands debugs within = record {
   debugs = debugs;

@@ -39,6 +39,7 @@ slots_good target (s ∷ rest) opens each =
     let k = each.0 in
     ((ltb-true s.number 4096 q.0, r.0, (omega arith)), slots_good target rest p.1 each.1)
 
+-- the kept values of well-formed registers
 pub kept_good : (target : Registers) → IsFit target → AllGood (slot_wants target kept_slots)
 kept_good target fit = slots_good target kept_slots kept_open (IsFit-slots target fit)
 
@@ -88,6 +89,7 @@ mode_small Mode.U = omega arith
 mode_small Mode.S = omega arith
 mode_small Mode.M = omega arith
 
+-- every well-formed hart out of debug mode
 pub is_target : (target : Hart) → IsWellFormed target → target.csrs.debug ≡ None → IsTarget target
 is_target target fit out =
     let last : List Want = Control csr_dcsr (dcsr_fixed + level target.mode) ∷ Control csr_dpc target.pc ∷ [] in

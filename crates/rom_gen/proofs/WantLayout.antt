@@ -87,11 +87,13 @@ word_is v fits e = ⊎_elim
     (λ c. ⊎_elim (λ l. ap (modulo 64) c.1 ∙ omega (arith, c.0)) (λ l. ap (modulo 64) c.1 ∙ omega (arith, c.0)) (short_cases v e))
     (high_is (v % 2 ^ 32) (omega arith))
 
+-- lui and addiw give the value
 pub pair_value : (v : ℕ) → v < 2 ^ 64 → is_short v ≡ true → alu_of BinOp.Addw (modulo 64 (high_part v)) (modulo 64 (low_part v)) ≡ v
 pair_value v fits e = ap (λ x. modulo 64 (signed 32 x)) (sum_is v) ∙ word_is v fits e
 
 -- ---- the spellings
 
+-- one of the three spellings of a value
 pub put_spelled : (n : ℕ) (memory : MemoryState) (hart : Hart) (block off r v : ℕ) (b c : Bool) → is_small v ≡ b → is_short v ≡ c → 0 < r → r < 32 → v < 2 ^ 64 → register hart 1 ≡ rom_base + block → block % 8 ≡ 0 → off % 8 ≡ 0 → off + 8 * length (cond b [] (cond c [] (v ∷ []))) ≤ 2048 → StandAt (pool (cond b [] (cond c [] (v ∷ [])))) (block + off) memory.rom → Spelled n memory hart block (Put r v) (cond b (Insn.Addi r 0 (low_part v) ∷ []) (cond c (Insn.Lui r (high_part v) ∷ Insn.Addiw r r (low_part v) ∷ []) (Insn.Ld r 1 (pos off) ∷ [])))
 put_spelled n memory hart block off r v true c is_a is_b some r_fits fits at aligned even room there = small r v (low_part v) some r_fits (low_fits v) (small_is v fits is_a)
 put_spelled n memory hart block off r v false true is_a is_b some r_fits fits at aligned even room there = pair r v (high_part v) (low_part v) some r_fits (high_fits v) (high_multiple v) (low_fits v) (pair_value v fits is_b)
@@ -134,5 +136,6 @@ want_leaves off (Reg r v) hart good count =
     record { csrs = ap (λ (x : Hart). x.csrs) is; x = ap (λ (x : Hart). x.x) is; reservation = ap (λ (x : Hart). x.reservation) is }
 want_leaves off (Control number v) hart good count = control_leaves off number v hart (nat_le v 31) count
 
+-- so the spelling of wants is a layout
 pub want_layout : IsLayout want_items want_values
 want_layout = record { spelled = want_spelled; inner = want_inner; leaves = want_leaves }

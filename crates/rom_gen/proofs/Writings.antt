@@ -32,6 +32,7 @@ values_append : (ws vs : List Want) → all_values want_values (ws ++ vs) ≡ al
 values_append [] vs = refl
 values_append (w ∷ ws) vs = ap (λ x. want_values w ++ x) (values_append ws vs) ∙ sym (append_assoc (want_values w) (all_values want_values ws) (all_values want_values vs))
 
+-- what was added, and then more
 pub adds_join : (a b c : Writer) (first second : List Insn) (us vs : List ℕ) → Adds a b first us → Adds b c second vs → Adds a c (first ++ second) (us ++ vs)
 adds_join a b c first second us vs one two = record {
   code = two.code ∙ ap (λ x. x ++ code second) one.code ∙ append_assoc a.code.items (code first) (code second) ∙ ap (λ x. a.code.items ++ x) (sym (code_append first second));
@@ -46,6 +47,7 @@ offset_on a b insns us adds = omega (arith, adds.place, ap length adds.pool, len
 pub wrote_none : (a : Writer) → Wrote a a []
 wrote_none a = record { code = sym (append-nil a.code.items); pool = sym (append-nil a.pool.items); place = refl }
 
+-- wants and then more
 pub wrote_join : (a b c : Writer) (ws vs : List Want) → Wrote a b ws → Wrote b c vs → Wrote a c (ws ++ vs)
 wrote_join a b c ws vs one two =
     let next : ℕ = offset_of a + 8 * length (all_values want_values ws) in
@@ -120,6 +122,7 @@ from_all_of p (x ∷ xs) e (suc k) d within = from_all_of p xs (and_parts (p x) 
 
 -- ---- a hart
 
+-- all wants of a hart
 pub hart_written : (a b c d e f : Writer) (target : Hart) (r : Registers) (numbers : List ℕ) (v1 v2 v3 : ℕ) → r ≡ target.csrs → numbers ≡ map number_of kept_slots → v1 ≡ dcsr_fixed + level target.mode → v2 ≡ target.pc → v3 ≡ slice_index target.x 1 →
     Wrote a b (number_wants r numbers) → Adds b c (all_insns (want_items (offset_of b) (Control csr_dcsr v1))) (want_values (Control csr_dcsr v1)) → Adds c d (all_insns (want_items (offset_of c) (Control csr_dpc v2))) (want_values (Control csr_dpc v2)) → Wrote d e (numbered 30 2 target.x) → Adds e f (put_insns (offset_of e) 1 v3) (put_values v3) →
     Adds a f (all_insns (hart_items target (offset_of a))) (hart_values target)
@@ -142,6 +145,7 @@ hart_written a b c d e f target r numbers v1 v2 v3 same all is1 is2 is3 slots co
 
 -- ---- a block, drafted for its length and then written
 
+-- the length of a draft
 pub drafted : (items : ℕ → List Spelling) (values : List ℕ) (a b : Writer) → ((k : ℕ) → word_count (items k) ≡ word_count (items 0)) → a.code.items ≡ [] → Adds a b (all_insns (items (offset_of a))) values → length b.code.items ≡ 4 * word_count (items 0)
 drafted items values a b fixed none adds =
     let insns : List Insn = all_insns (items (offset_of a)) in
@@ -153,6 +157,7 @@ place_drafted items n is = let e : n / 4 ≡ word_count (items 0) = omega arith 
 pub offset_begun : (a : Writer) (place : ℕ) → a.pool.items ≡ [] → a.place ≡ place → offset_of a ≡ place
 offset_begun a place none is = omega (arith, ap length none, is)
 
+-- a block's bytes
 pub block_written : (items : ℕ → List Spelling) (last : Insn) (values : List ℕ) (a b : Writer) (n : ℕ) → ((k : ℕ) → word_count (items k) ≡ word_count (items 0)) → a.code.items ≡ [] → a.pool.items ≡ [] → a.place ≡ pool_place items → n ≡ encoded last → Adds a b (all_insns (items (offset_of a))) values → (b.code.items ++ little_bytes 4 n) ++ (code (padding (length b.code.items / 4 + 1)) ++ b.pool.items) ≡ block_bytes items last values
 block_written items last values a b n fixed no_code no_pool place is adds =
     let k : ℕ = pool_place items in

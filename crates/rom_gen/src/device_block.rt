@@ -63,7 +63,7 @@ pub(crate) fn device_block(
 }
 
 impl Writer {
-    /// The contexts of the interrupt controller.
+    /// The contexts of the interrupt controller: enable bits and threshold of each.
     fn contexts(&mut self, plic: &Plic, count: u8) -> Result<(), NoMemory>
         requires count { count ≤ context_count plic.now }
         requires few { count ≤ 16 }
@@ -80,7 +80,7 @@ impl Writer {
         Ok(())
     }
 
-    /// The bytes that wait.
+    /// The bytes that wait, from the front; in loop mode they enter the queue.
     fn queue(&mut self, console: &Console) -> Result<(), NoMemory>
         requires room { offset_of self.old + 128 ≤ 2048 }
         ensures code { OnOk result (Dealt self.old self.new (queue_deeds console.now.queue [])) }
@@ -120,7 +120,9 @@ impl Writer {
         Ok(())
     }
 
-    /// The base registers, and the served marks.
+    /// The base registers, and the served marks, which claims alone set: with both sources at priority 1
+    /// and the console's two interrupts on, context 0 enables the sources that are to be served and claims
+    /// twice. The byte that raised the input's interrupt is taken out again.
     fn marks(&mut self, served: u8) -> Result<(), NoMemory>
         requires room { offset_of self.old + 32 ≤ 2048 }
         ensures code { OnOk result (Dealt self.old self.new (marks_deeds served [])) }
