@@ -58,7 +58,9 @@ start_at board harts i v within is = is ∙ ⊎_elim
     (cases_eq i 0)
 
 -- one start more
-pub start_added : (board : BoardState) (harts : List Hart) (i v n first before : ℕ) (old new : List ℕ) → i < length harts → n ≡ length harts → first ≡ rom_base + first_place board harts → before ≡ length (all_blocks (take i harts)) → v ≡ cond (i == 0) (65560 + 8 * n) (first + before) → old ≡ take i (addresses (start_places board harts)) → new ≡ old ++ v ∷ [] → new ≡ take (i + 1) (addresses (start_places board harts))
+pub start_added : (board : BoardState) (harts : List Hart) (i v n first before : ℕ) (old new : List ℕ) → i < length harts → n ≡ length harts →
+    first ≡ rom_base + first_place board harts → before ≡ length (all_blocks (take i harts)) → v ≡ cond (i == 0) (65560 + 8 * n) (first + before) →
+    old ≡ take i (addresses (start_places board harts)) → new ≡ old ++ v ∷ [] → new ≡ take (i + 1) (addresses (start_places board harts))
 start_added board harts i v n first before old new within n_is first_is before_is is old_is new_is =
     let starts : List ℕ = addresses (start_places board harts) in
     let given : v ≡ cond (i == 0) (65560 + 8 * length harts) (rom_base + first_place board harts + length (all_blocks (take i harts))) = is ∙ ap (λ k. cond (i == 0) (65560 + 8 * k) (first + before)) n_is ∙ ap (λ k. cond (i == 0) (65560 + 8 * length harts) (k + before)) first_is ∙ ap (λ k. cond (i == 0) (65560 + 8 * length harts) (rom_base + first_place board harts + k)) before_is in
@@ -66,7 +68,8 @@ start_added board harts i v n first before old new within n_is first_is before_i
     new_is ∙ ap (λ x. x ++ v ∷ []) old_is ∙ ap (λ x. take i starts ++ x ∷ []) v_is ∙ sym (take_more starts i 0 (omega (arith, addresses_length board harts)))
 
 -- one block more
-pub blocks_go_on : (harts : List Hart) (i : ℕ) (board : Hart) (old block new : List ℕ) → i < length harts → board ≡ get_or harts i (reset_hart 0 0) → old ≡ all_blocks (take i harts) → block ≡ hart_bytes board → new ≡ old ++ block → new ≡ all_blocks (take (i + 1) harts)
+pub blocks_go_on : (harts : List Hart) (i : ℕ) (board : Hart) (old block new : List ℕ) → i < length harts → board ≡ get_or harts i (reset_hart 0 0) →
+    old ≡ all_blocks (take i harts) → block ≡ hart_bytes board → new ≡ old ++ block → new ≡ all_blocks (take (i + 1) harts)
 blocks_go_on harts i board old block new within t_is old_is block_is new_is =
     new_is ∙ ap (λ x. x ++ block) old_is ∙ ap (λ x. all_blocks (take i harts) ++ x) (block_is ∙ ap hart_bytes t_is)
     ∙ sym (ap all_blocks (take_more harts i (reset_hart 0 0) within) ∙ blocks_more (take i harts) (get_or harts i (reset_hart 0 0)))
@@ -76,7 +79,8 @@ pub blocks_grow : (i : ℕ) (board : Hart) (old block new : List ℕ) → block 
 blocks_grow i board old block new block_is new_is room = omega (arith, ap length new_is, length-append old block, ap length block_is, hart_length board, hart_small board)
 
 -- the six words, as numbers
-pub dispatch_is : (a b c d e f g : List ℕ) → b ≡ a ++ little_bytes 4 0x00000097 → c ≡ b ++ little_bytes 4 0xf1402173 → d ≡ c ++ little_bytes 4 0x00311113 → e ≡ d ++ little_bytes 4 0x002080b3 → f ≡ e ++ little_bytes 4 0x0180b083 → g ≡ f ++ little_bytes 4 0x00008067 → g ≡ a ++ code dispatch_insns
+pub dispatch_is : (a b c d e f g : List ℕ) → b ≡ a ++ little_bytes 4 0x00000097 → c ≡ b ++ little_bytes 4 0xf1402173 → d ≡ c ++ little_bytes 4 0x00311113 →
+    e ≡ d ++ little_bytes 4 0x002080b3 → f ≡ e ++ little_bytes 4 0x0180b083 → g ≡ f ++ little_bytes 4 0x00008067 → g ≡ a ++ code dispatch_insns
 unfolding encoded word_r word_long
 dispatch_is a b c d e f g e1 e2 e3 e4 e5 e6 =
     e6 ∙ ap (λ x. x ++ little_bytes 4 0x00008067) (e5 ∙ ap (λ x. x ++ little_bytes 4 0x0180b083) (e4 ∙ ap (λ x. x ++ little_bytes 4 0x002080b3) (e3 ∙ ap (λ x. x ++ little_bytes 4 0x00311113) (e2 ∙ ap (λ x. x ++ little_bytes 4 0xf1402173) e1))))
@@ -93,7 +97,9 @@ starts_count board harts starts n n_is is =
     ap length (is ∙ ap (λ k. take k all) (n_is ∙ sym (addresses_length board harts)) ∙ take-length all) ∙ addresses_length board harts
 
 -- the parts make the ROM
-pub rom_assembled : (board : BoardState) (harts : List Hart) (first : ℕ) (starts dispatch device blocks b c : List ℕ) → first ≡ rom_base + first_place board harts → starts ≡ take (length harts) (addresses (start_places board harts)) → dispatch ≡ dispatch_bytes starts → device ≡ device_bytes board first → blocks ≡ all_blocks (take (length harts) harts) → b ≡ dispatch ++ device → c ≡ b ++ blocks → c ≡ rom_bytes board harts
+pub rom_assembled : (board : BoardState) (harts : List Hart) (first : ℕ) (starts dispatch device blocks b c : List ℕ) → first ≡ rom_base + first_place board harts →
+    starts ≡ take (length harts) (addresses (start_places board harts)) → dispatch ≡ dispatch_bytes starts → device ≡ device_bytes board first →
+    blocks ≡ all_blocks (take (length harts) harts) → b ≡ dispatch ++ device → c ≡ b ++ blocks → c ≡ rom_bytes board harts
 rom_assembled board harts first starts dispatch device blocks b c first_is starts_is dispatch_is device_is blocks_is b_is c_is =
     let all : List ℕ = addresses (start_places board harts) in
     let whole : take (length harts) all ≡ all = ap (λ n. take n all) (sym (addresses_length board harts)) ∙ take-length all in

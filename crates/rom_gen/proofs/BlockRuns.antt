@@ -26,7 +26,9 @@ abbrev pub hart_steps : Hart → ℕ
 hart_steps target = word_count (hart_items target (pool_place (hart_items target))) + 1
 
 -- the block of a hart frees it
-pub hart_part : (b : Booting) (h block : ℕ) (target : Hart) → IsTarget target → HasCome b h block (debug_registers target.csrs.hart) → (hart_of b.core h).reservation ≡ None → StandAt (hart_bytes target) block b.core.rom → Frees h (hart_steps target) b (freed h (hart_steps target) (unreserved_hart target) b.board b)
+pub hart_part : (b : Booting) (h block : ℕ) (target : Hart) → IsTarget target → HasCome b h block (debug_registers target.csrs.hart) →
+    (hart_of b.core h).reservation ≡ None → StandAt (hart_bytes target) block b.core.rom →
+    Frees h (hart_steps target) b (freed h (hart_steps target) (unreserved_hart target) b.board b)
 unfolding hart_bytes
 hart_part b h block target fit come none there =
     let k : ℕ = pool_place (hart_items target) in
@@ -42,7 +44,9 @@ abbrev pub device_steps : BoardState → ℕ → ℕ
 device_steps board next = word_count (device_items (pool_place (λ k. device_items k board (rom_base + next))) board (rom_base + next)) + 1
 
 -- the block of the devices puts them back, and leads on
-pub device_part : (b : Booting) (h block next : ℕ) (board : BoardState) (csrs : Registers) → IsFitBoard board → length b.core.harts ≡ hart_count board.clint → b.board ≡ reset_board (hart_count board.clint) → HasCome b h block csrs → next % 8 ≡ 0 → next ≤ most_rom → StandAt (device_bytes board (rom_base + next)) block b.core.rom → Led b h (device_steps board next) next csrs board
+pub device_part : (b : Booting) (h block next : ℕ) (board : BoardState) (csrs : Registers) → IsFitBoard board → length b.core.harts ≡ hart_count board.clint →
+    b.board ≡ reset_board (hart_count board.clint) → HasCome b h block csrs → next % 8 ≡ 0 → next ≤ most_rom →
+    StandAt (device_bytes board (rom_base + next)) block b.core.rom → Led b h (device_steps board next) next csrs board
 unfolding device_bytes device_size
 device_part b h block next board csrs fit count fresh come even within there =
     let items : ℕ → List Spelling = λ k. device_items k board (rom_base + next) in

@@ -7,7 +7,8 @@ use Rattle.hart_step.specs.Harts.{hart_of, reset_hart}
 use Rattle.hart_turns.specs.Boot.{Booting}
 use Rattle.rom_gen.specs.Items.{Item, Put, Csr, CsrImm, Store, Load, Go, Spelling, word_count, Leave}
 use Rattle.rom_gen.specs.ItemEffects.{all_do, becomes, does, hart_after}
-use Rattle.rom_gen.specs.Wants.{AllInner, IsInner, hart_all}
+use Rattle.rom_gen.specs.Wants.{hart_all}
+use Rattle.rom_gen.proofs.Layouts.{AllInner, IsInner}
 
 inner_does : (h n : ℕ) (item : Item) (b : Booting) → IsInner item → does h n item b ≡ becomes h n (hart_after n item (hart_of b.core h)) b
 inner_does h n (Put r v) b inner = refl

@@ -30,12 +30,16 @@ one_adds a b insn n is code_is pool_is place_is = record {
   place = place_is;
 }
 
-save_as : (z : Bool) (a d : Writer) (w : Width) (v by : ℕ) (off : ℤ) → z ≡ false → Adds a d (put_insns (offset_of a) 6 v ++ store_insn w by 6 off ∷ []) (put_values v ++ []) → Adds a d (all_insns (cond z (record { item = Store (size_of w) 0 by off; insns = store_insn w by 0 off ∷ [] } ∷ []) (record { item = Put 6 v; insns = put_insns (offset_of a) 6 v } ∷ record { item = Store (size_of w) 6 by off; insns = store_insn w by 6 off ∷ [] } ∷ []))) (cond z [] (put_values v))
+save_as : (z : Bool) (a d : Writer) (w : Width) (v by : ℕ) (off : ℤ) → z ≡ false →
+    Adds a d (put_insns (offset_of a) 6 v ++ store_insn w by 6 off ∷ []) (put_values v ++ []) →
+    Adds a d (all_insns (cond z (record { item = Store (size_of w) 0 by off; insns = store_insn w by 0 off ∷ [] } ∷ []) (record { item = Put 6 v; insns = put_insns (offset_of a) 6 v } ∷ record { item = Store (size_of w) 6 by off; insns = store_insn w by 6 off ∷ [] } ∷ []))) (cond z [] (put_values v))
 save_as true a d w v by off is adds = absurd (cc)
 save_as false a d w v by off is adds = subst (λ x. Adds a d (put_insns (offset_of a) 6 v ++ store_insn w by 6 off ∷ []) x) (append-nil (put_values v)) adds
 
 -- a value that is saved through x6
-pub save_adds : (a b d : Writer) (w : Width) (v by n : ℕ) (off : ℤ) → v ≢ 0 → Adds a b (put_insns (offset_of a) 6 v) (put_values v) → n ≡ encoded (store_insn w by 6 off) → d.code.items ≡ b.code.items ++ little_bytes 4 n → d.pool.items ≡ b.pool.items → d.place ≡ b.place → Adds a d (all_insns (deed_items (offset_of a) (Save w v by off 0))) (deed_values (Save w v by off 0))
+pub save_adds : (a b d : Writer) (w : Width) (v by n : ℕ) (off : ℤ) → v ≢ 0 → Adds a b (put_insns (offset_of a) 6 v) (put_values v) →
+    n ≡ encoded (store_insn w by 6 off) → d.code.items ≡ b.code.items ++ little_bytes 4 n → d.pool.items ≡ b.pool.items → d.place ≡ b.place →
+    Adds a d (all_insns (deed_items (offset_of a) (Save w v by off 0))) (deed_values (Save w v by off 0))
 save_adds a b d w v by n off some put is code_is pool_is place_is =
     save_as (v == 0) a d w v by off (ne_eqb v 0 some) (adds_join a b d (put_insns (offset_of a) 6 v) (store_insn w by 6 off ∷ []) (put_values v) [] put (one_adds b d (store_insn w by 6 off) n is code_is pool_is place_is))
 
@@ -91,18 +95,18 @@ contexts_more (suc k) c enables thresholds =
     let e : suc c + k ≡ c + suc k = omega arith in
     ap (λ ds. Save Word (slice_index enables c) 4 (pos (128 * c)) (0xc002000 + 128 * c) ∷ Aim 5 (0xc200000 + 4096 * c) ∷ Save Word (slice_index thresholds c) 5 (pos 0) (0xc200000 + 4096 * c) ∷ ds) (contexts_more k (suc c) enables thresholds ∙ ap (λ q. context_deeds k (suc c) enables thresholds [] ++ context_deed q enables thresholds) e)
 
-pub context_dealt : (start now one two next : Writer) (enables thresholds : List ℕ) (c q e target : ℕ) → q ≡ c → e ≡ slice_index enables c → target ≡ slice_index thresholds c → Dealt start now (context_deeds c 0 enables thresholds []) →
-    Adds now one (all_insns (deed_items (offset_of now) (Save Word e 4 (pos (128 * q)) 0))) (deed_values (Save Word e 4 (pos (128 * q)) 0)) → Dealt one two (Aim 5 (0xc200000 + 4096 * q) ∷ []) → Adds two next (all_insns (deed_items (offset_of two) (Save Word target 5 (pos 0) 0))) (deed_values (Save Word target 5 (pos 0) 0)) →
+pub context_dealt : (start now one two next : Writer) (enables thresholds : List ℕ) (c q enable threshold : ℕ) → q ≡ c → enable ≡ slice_index enables c → threshold ≡ slice_index thresholds c → Dealt start now (context_deeds c 0 enables thresholds []) →
+    Adds now one (all_insns (deed_items (offset_of now) (Save Word enable 4 (pos (128 * q)) 0))) (deed_values (Save Word enable 4 (pos (128 * q)) 0)) → Dealt one two (Aim 5 (0xc200000 + 4096 * q) ∷ []) → Adds two next (all_insns (deed_items (offset_of two) (Save Word threshold 5 (pos 0) 0))) (deed_values (Save Word threshold 5 (pos 0) 0)) →
     Dealt start next (context_deeds (c + 1) 0 enables thresholds [])
-context_dealt start now one two next enables thresholds c q e target q_is e_is t_is dealt first aim second =
+context_dealt start now one two next enables thresholds c q enable threshold q_is enable_is threshold_is dealt first aim second =
     let d1 : Deed = Save Word (slice_index enables c) 4 (pos (128 * c)) (0xc002000 + 128 * c) in
     let d2 : Deed = Aim 5 (0xc200000 + 4096 * c) in
     let d3 : Deed = Save Word (slice_index thresholds c) 5 (pos 0) (0xc200000 + 4096 * c) in
     let on : suc c ≡ c + 1 = omega arith in
     let at : 0 + c ≡ c = omega arith in
-    let one_is : Dealt now one (d1 ∷ []) = subst (λ z. Dealt now one (Save Word z 4 (pos (128 * c)) (0xc002000 + 128 * c) ∷ [])) e_is (subst (λ z. Dealt now one (Save Word e 4 (pos (128 * z)) (0xc002000 + 128 * c) ∷ [])) q_is (dealt_one now one Word e 4 (0xc002000 + 128 * c) (pos (128 * q)) first)) in
+    let one_is : Dealt now one (d1 ∷ []) = subst (λ z. Dealt now one (Save Word z 4 (pos (128 * c)) (0xc002000 + 128 * c) ∷ [])) enable_is (subst (λ z. Dealt now one (Save Word enable 4 (pos (128 * z)) (0xc002000 + 128 * c) ∷ [])) q_is (dealt_one now one Word enable 4 (0xc002000 + 128 * c) (pos (128 * q)) first)) in
     let two_is : Dealt one two (d2 ∷ []) = subst (λ z. Dealt one two (Aim 5 (0xc200000 + 4096 * z) ∷ [])) q_is aim in
-    let three_is : Dealt two next (d3 ∷ []) = subst (λ z. Dealt two next (Save Word z 5 (pos 0) (0xc200000 + 4096 * c) ∷ [])) t_is (dealt_one two next Word target 5 (0xc200000 + 4096 * c) (pos 0) second) in
+    let three_is : Dealt two next (d3 ∷ []) = subst (λ z. Dealt two next (Save Word z 5 (pos 0) (0xc200000 + 4096 * c) ∷ [])) threshold_is (dealt_one two next Word threshold 5 (0xc200000 + 4096 * c) (pos 0) second) in
     subst (λ ds. Dealt start next ds) (sym (contexts_more c 0 enables thresholds ∙ ap (λ z. context_deeds c 0 enables thresholds [] ++ context_deed z enables thresholds) at) ∙ ap (λ k. context_deeds k 0 enables thresholds []) on)
     (dealt_join start now next (context_deeds c 0 enables thresholds []) (d1 ∷ d2 ∷ d3 ∷ []) dealt (dealt_join now one next (d1 ∷ []) (d2 ∷ d3 ∷ []) one_is (dealt_join one two next (d2 ∷ []) (d3 ∷ []) two_is three_is)))
 
@@ -119,7 +123,9 @@ unfolding queue_deeds
 queue_apart [] rest = refl
 queue_apart (y ∷ q) rest = ap (λ ds. Save Byte y 2 (pos 0) 0x10000000 ∷ ds) (queue_apart q rest)
 
-pub byte_dealt : (start now next : Writer) (q : List ℕ) (i x : ℕ) → i < length q → x ≡ slice_index q i → Dealt start now (queue_deeds (take i q) []) → Adds now next (all_insns (deed_items (offset_of now) (Save Byte x 2 (pos 0) 0))) (deed_values (Save Byte x 2 (pos 0) 0)) → Dealt start next (queue_deeds (take (i + 1) q) [])
+pub byte_dealt : (start now next : Writer) (q : List ℕ) (i x : ℕ) → i < length q → x ≡ slice_index q i → Dealt start now (queue_deeds (take i q) []) →
+    Adds now next (all_insns (deed_items (offset_of now) (Save Byte x 2 (pos 0) 0))) (deed_values (Save Byte x 2 (pos 0) 0)) →
+    Dealt start next (queue_deeds (take (i + 1) q) [])
 byte_dealt start now next q i x within is dealt adds =
     let d : Deed = Save Byte (slice_index q i) 2 (pos 0) 0x10000000 in
     let one : Dealt now next (d ∷ []) = subst (λ z. Dealt now next (Save Byte z 2 (pos 0) 0x10000000 ∷ [])) is (dealt_one now next Byte x 2 0x10000000 (pos 0) adds) in
@@ -152,14 +158,18 @@ unfolding compare_deeds
 compare_more zero h xs = ap (λ q. compare_deed q xs ∷ []) (let e : h ≡ h + 0 = omega arith in e)
 compare_more (suc k) h xs = let e : suc h + k ≡ h + suc k = omega arith in ap (λ ds. compare_deed h xs ∷ ds) (compare_more k (suc h) xs ∙ ap (λ q. compare_deeds k (suc h) xs [] ++ compare_deed q xs ∷ []) e)
 
-pub soft_dealt : (start now next : Writer) (xs : List ℕ) (h q x : ℕ) → q ≡ h → x ≡ slice_index xs h → Dealt start now (soft_deeds h 0 xs []) → Adds now next (all_insns (deed_items (offset_of now) (Save Word x 5 (pos (4 * q)) 0))) (deed_values (Save Word x 5 (pos (4 * q)) 0)) → Dealt start next (soft_deeds (h + 1) 0 xs [])
+pub soft_dealt : (start now next : Writer) (xs : List ℕ) (h q x : ℕ) → q ≡ h → x ≡ slice_index xs h → Dealt start now (soft_deeds h 0 xs []) →
+    Adds now next (all_insns (deed_items (offset_of now) (Save Word x 5 (pos (4 * q)) 0))) (deed_values (Save Word x 5 (pos (4 * q)) 0)) →
+    Dealt start next (soft_deeds (h + 1) 0 xs [])
 soft_dealt start now next xs h q x q_is x_is dealt adds =
     let on : suc h ≡ h + 1 = omega arith in
     let at : 0 + h ≡ h = omega arith in
     let one : Dealt now next (soft_deed h xs ∷ []) = subst (λ z. Dealt now next (Save Word z 5 (pos (4 * h)) (0x2000000 + 4 * h) ∷ [])) x_is (subst (λ z. Dealt now next (Save Word x 5 (pos (4 * z)) (0x2000000 + 4 * h) ∷ [])) q_is (dealt_one now next Word x 5 (0x2000000 + 4 * h) (pos (4 * q)) adds)) in
     subst (λ ds. Dealt start next ds) (sym (soft_more h 0 xs ∙ ap (λ z. soft_deeds h 0 xs [] ++ soft_deed z xs ∷ []) at) ∙ ap (λ k. soft_deeds k 0 xs []) on) (dealt_join start now next (soft_deeds h 0 xs []) (soft_deed h xs ∷ []) dealt one)
 
-pub compare_dealt : (start now next : Writer) (xs : List ℕ) (h q x : ℕ) → q ≡ h → x ≡ slice_index xs h → Dealt start now (compare_deeds h 0 xs []) → Adds now next (all_insns (deed_items (offset_of now) (Save Double x 7 (pos (8 * q)) 0))) (deed_values (Save Double x 7 (pos (8 * q)) 0)) → Dealt start next (compare_deeds (h + 1) 0 xs [])
+pub compare_dealt : (start now next : Writer) (xs : List ℕ) (h q x : ℕ) → q ≡ h → x ≡ slice_index xs h → Dealt start now (compare_deeds h 0 xs []) →
+    Adds now next (all_insns (deed_items (offset_of now) (Save Double x 7 (pos (8 * q)) 0))) (deed_values (Save Double x 7 (pos (8 * q)) 0)) →
+    Dealt start next (compare_deeds (h + 1) 0 xs [])
 compare_dealt start now next xs h q x q_is x_is dealt adds =
     let on : suc h ≡ h + 1 = omega arith in
     let at : 0 + h ≡ h = omega arith in
@@ -177,11 +187,41 @@ compare_loaded c h within most =
     let g : (0x4000 + 8 * h == 0xbff8) ≡ false = ne_eqb _ _ (omega arith) in
     rw (g, row_is 0x4000 8 (hart_count c) h (omega arith) within (omega arith) (omega arith) (omega arith)) refl
 
-pub marks_dealt : (w0 w1 w2 w3 w4 w5 w6 w7 w8 w9 w10 w11 w12 : Writer) (m : ℕ) → Dealt w0 w1 (Aim 2 0x10000000 ∷ []) → Dealt w1 w2 (Aim 3 0xc000000 ∷ []) → Dealt w2 w3 (Aim 4 0xc002000 ∷ []) → Dealt w3 w4 (Aim 5 0xc200000 ∷ []) → Adds w4 w5 (all_insns (deed_items (offset_of w4) (Save Word 1 3 (pos 4) 0))) (deed_values (Save Word 1 3 (pos 4) 0)) → Dealt w5 w6 (Again Word 1 3 (pos 8) 0 ∷ []) → Adds w6 w7 (all_insns (deed_items (offset_of w6) (Save Word m 4 (pos 0) 0))) (deed_values (Save Word m 4 (pos 0) 0)) → Adds w7 w8 (all_insns (deed_items (offset_of w7) (Save Word 7 2 (pos 8) 0))) (deed_values (Save Word 7 2 (pos 8) 0)) → Adds w8 w9 (all_insns (deed_items (offset_of w8) (Save Byte 0 2 (pos 0) 0))) (deed_values (Save Byte 0 2 (pos 0) 0)) → Dealt w9 w10 (Read Word 5 (pos 4) 0 ∷ []) → Dealt w10 w11 (Read Word 5 (pos 4) 0 ∷ []) → Dealt w11 w12 (Read Byte 2 (pos 0) 0 ∷ []) → Dealt w0 w12 (marks_deeds m [])
+-- all deeds of the marks
+pub marks_dealt : (w0 w1 w2 w3 w4 w5 w6 w7 w8 w9 w10 w11 w12 : Writer) (m : ℕ) →
+    Dealt w0 w1 (Aim 2 0x10000000 ∷ []) → Dealt w1 w2 (Aim 3 0xc000000 ∷ []) → Dealt w2 w3 (Aim 4 0xc002000 ∷ []) → Dealt w3 w4 (Aim 5 0xc200000 ∷ []) →
+    Adds w4 w5 (all_insns (deed_items (offset_of w4) (Save Word 1 3 (pos 4) 0))) (deed_values (Save Word 1 3 (pos 4) 0)) →
+    Dealt w5 w6 (Again Word 1 3 (pos 8) 0 ∷ []) →
+    Adds w6 w7 (all_insns (deed_items (offset_of w6) (Save Word m 4 (pos 0) 0))) (deed_values (Save Word m 4 (pos 0) 0)) →
+    Adds w7 w8 (all_insns (deed_items (offset_of w7) (Save Word 7 2 (pos 8) 0))) (deed_values (Save Word 7 2 (pos 8) 0)) →
+    Adds w8 w9 (all_insns (deed_items (offset_of w8) (Save Byte 0 2 (pos 0) 0))) (deed_values (Save Byte 0 2 (pos 0) 0)) →
+    Dealt w9 w10 (Read Word 5 (pos 4) 0 ∷ []) → Dealt w10 w11 (Read Word 5 (pos 4) 0 ∷ []) → Dealt w11 w12 (Read Byte 2 (pos 0) 0 ∷ []) → Dealt w0 w12 (marks_deeds m [])
 marks_dealt w0 w1 w2 w3 w4 w5 w6 w7 w8 w9 w10 w11 w12 m p1 p2 p3 p4 p5 p6 p7 p8 p9 p10 p11 p12 =
-    (dealt_join w0 w1 w12 (Aim 2 0x10000000 ∷ []) (Aim 3 0xc000000 ∷ Aim 4 0xc002000 ∷ Aim 5 0xc200000 ∷ Save Word 1 3 (pos 4) 0xc000004 ∷ Again Word 1 3 (pos 8) 0xc000008 ∷ Save Word m 4 (pos 0) 0xc002000 ∷ Save Word 7 2 (pos 8) 0x10000008 ∷ Save Byte 0 2 (pos 0) 0x10000000 ∷ Read Word 5 (pos 4) 0xc200004 ∷ Read Word 5 (pos 4) 0xc200004 ∷ Read Byte 2 (pos 0) 0x10000000 ∷ []) p1 (dealt_join w1 w2 w12 (Aim 3 0xc000000 ∷ []) (Aim 4 0xc002000 ∷ Aim 5 0xc200000 ∷ Save Word 1 3 (pos 4) 0xc000004 ∷ Again Word 1 3 (pos 8) 0xc000008 ∷ Save Word m 4 (pos 0) 0xc002000 ∷ Save Word 7 2 (pos 8) 0x10000008 ∷ Save Byte 0 2 (pos 0) 0x10000000 ∷ Read Word 5 (pos 4) 0xc200004 ∷ Read Word 5 (pos 4) 0xc200004 ∷ Read Byte 2 (pos 0) 0x10000000 ∷ []) p2 (dealt_join w2 w3 w12 (Aim 4 0xc002000 ∷ []) (Aim 5 0xc200000 ∷ Save Word 1 3 (pos 4) 0xc000004 ∷ Again Word 1 3 (pos 8) 0xc000008 ∷ Save Word m 4 (pos 0) 0xc002000 ∷ Save Word 7 2 (pos 8) 0x10000008 ∷ Save Byte 0 2 (pos 0) 0x10000000 ∷ Read Word 5 (pos 4) 0xc200004 ∷ Read Word 5 (pos 4) 0xc200004 ∷ Read Byte 2 (pos 0) 0x10000000 ∷ []) p3 (dealt_join w3 w4 w12 (Aim 5 0xc200000 ∷ []) (Save Word 1 3 (pos 4) 0xc000004 ∷ Again Word 1 3 (pos 8) 0xc000008 ∷ Save Word m 4 (pos 0) 0xc002000 ∷ Save Word 7 2 (pos 8) 0x10000008 ∷ Save Byte 0 2 (pos 0) 0x10000000 ∷ Read Word 5 (pos 4) 0xc200004 ∷ Read Word 5 (pos 4) 0xc200004 ∷ Read Byte 2 (pos 0) 0x10000000 ∷ []) p4 (dealt_join w4 w5 w12 (Save Word 1 3 (pos 4) 0xc000004 ∷ []) (Again Word 1 3 (pos 8) 0xc000008 ∷ Save Word m 4 (pos 0) 0xc002000 ∷ Save Word 7 2 (pos 8) 0x10000008 ∷ Save Byte 0 2 (pos 0) 0x10000000 ∷ Read Word 5 (pos 4) 0xc200004 ∷ Read Word 5 (pos 4) 0xc200004 ∷ Read Byte 2 (pos 0) 0x10000000 ∷ []) (dealt_one w4 w5 Word 1 3 0xc000004 (pos 4) p5) (dealt_join w5 w6 w12 (Again Word 1 3 (pos 8) 0xc000008 ∷ []) (Save Word m 4 (pos 0) 0xc002000 ∷ Save Word 7 2 (pos 8) 0x10000008 ∷ Save Byte 0 2 (pos 0) 0x10000000 ∷ Read Word 5 (pos 4) 0xc200004 ∷ Read Word 5 (pos 4) 0xc200004 ∷ Read Byte 2 (pos 0) 0x10000000 ∷ []) p6 (dealt_join w6 w7 w12 (Save Word m 4 (pos 0) 0xc002000 ∷ []) (Save Word 7 2 (pos 8) 0x10000008 ∷ Save Byte 0 2 (pos 0) 0x10000000 ∷ Read Word 5 (pos 4) 0xc200004 ∷ Read Word 5 (pos 4) 0xc200004 ∷ Read Byte 2 (pos 0) 0x10000000 ∷ []) (dealt_one w6 w7 Word m 4 0xc002000 (pos 0) p7) (dealt_join w7 w8 w12 (Save Word 7 2 (pos 8) 0x10000008 ∷ []) (Save Byte 0 2 (pos 0) 0x10000000 ∷ Read Word 5 (pos 4) 0xc200004 ∷ Read Word 5 (pos 4) 0xc200004 ∷ Read Byte 2 (pos 0) 0x10000000 ∷ []) (dealt_one w7 w8 Word 7 2 0x10000008 (pos 8) p8) (dealt_join w8 w9 w12 (Save Byte 0 2 (pos 0) 0x10000000 ∷ []) (Read Word 5 (pos 4) 0xc200004 ∷ Read Word 5 (pos 4) 0xc200004 ∷ Read Byte 2 (pos 0) 0x10000000 ∷ []) (dealt_one w8 w9 Byte 0 2 0x10000000 (pos 0) p9) (dealt_join w9 w10 w12 (Read Word 5 (pos 4) 0xc200004 ∷ []) (Read Word 5 (pos 4) 0xc200004 ∷ Read Byte 2 (pos 0) 0x10000000 ∷ []) p10 (dealt_join w10 w11 w12 (Read Word 5 (pos 4) 0xc200004 ∷ []) (Read Byte 2 (pos 0) 0x10000000 ∷ []) p11 p12)))))))))))
+    let e12 : List Deed = Read Byte 2 (pos 0) 0x10000000 ∷ [] in
+    let e11 : List Deed = Read Word 5 (pos 4) 0xc200004 ∷ e12 in
+    let e10 : List Deed = Read Word 5 (pos 4) 0xc200004 ∷ e11 in
+    let e9 : List Deed = Save Byte 0 2 (pos 0) 0x10000000 ∷ e10 in
+    let e8 : List Deed = Save Word 7 2 (pos 8) 0x10000008 ∷ e9 in
+    let e7 : List Deed = Save Word m 4 (pos 0) 0xc002000 ∷ e8 in
+    let e6 : List Deed = Again Word 1 3 (pos 8) 0xc000008 ∷ e7 in
+    let e5 : List Deed = Save Word 1 3 (pos 4) 0xc000004 ∷ e6 in
+    let e4 : List Deed = Aim 5 0xc200000 ∷ e5 in
+    let e3 : List Deed = Aim 4 0xc002000 ∷ e4 in
+    let e2 : List Deed = Aim 3 0xc000000 ∷ e3 in
+    let q11 : Dealt w10 w12 e11 = dealt_join w10 w11 w12 (Read Word 5 (pos 4) 0xc200004 ∷ []) e12 p11 p12 in
+    let q10 : Dealt w9 w12 e10 = dealt_join w9 w10 w12 (Read Word 5 (pos 4) 0xc200004 ∷ []) e11 p10 q11 in
+    let q9 : Dealt w8 w12 e9 = dealt_join w8 w9 w12 (Save Byte 0 2 (pos 0) 0x10000000 ∷ []) e10 (dealt_one w8 w9 Byte 0 2 0x10000000 (pos 0) p9) q10 in
+    let q8 : Dealt w7 w12 e8 = dealt_join w7 w8 w12 (Save Word 7 2 (pos 8) 0x10000008 ∷ []) e9 (dealt_one w7 w8 Word 7 2 0x10000008 (pos 8) p8) q9 in
+    let q7 : Dealt w6 w12 e7 = dealt_join w6 w7 w12 (Save Word m 4 (pos 0) 0xc002000 ∷ []) e8 (dealt_one w6 w7 Word m 4 0xc002000 (pos 0) p7) q8 in
+    let q6 : Dealt w5 w12 e6 = dealt_join w5 w6 w12 (Again Word 1 3 (pos 8) 0xc000008 ∷ []) e7 p6 q7 in
+    let q5 : Dealt w4 w12 e5 = dealt_join w4 w5 w12 (Save Word 1 3 (pos 4) 0xc000004 ∷ []) e6 (dealt_one w4 w5 Word 1 3 0xc000004 (pos 4) p5) q6 in
+    let q4 : Dealt w3 w12 e4 = dealt_join w3 w4 w12 (Aim 5 0xc200000 ∷ []) e5 p4 q5 in
+    let q3 : Dealt w2 w12 e3 = dealt_join w2 w3 w12 (Aim 4 0xc002000 ∷ []) e4 p3 q4 in
+    let q2 : Dealt w1 w12 e2 = dealt_join w1 w2 w12 (Aim 3 0xc000000 ∷ []) e3 p2 q3 in
+    dealt_join w0 w1 w12 (Aim 2 0x10000000 ∷ []) e2 p1 q2
 
-apart : (target : BoardState) → device_deeds target ≡ marks_deeds target.plic.served [] ++ (queue_deeds target.console.queue [] ++ (Save Word (slice_index target.plic.priority 0) 3 (pos 4) 0xc000004 ∷ Save Word (slice_index target.plic.priority 1) 3 (pos 8) 0xc000008 ∷ (context_deeds (contexts_of target.plic) 0 target.plic.enable target.plic.threshold [] ++ (Save Word target.console.ctrl 2 (pos 8) 0x10000008 ∷ Save Double target.console.txaddr 2 (pos 16) 0x10000010 ∷ Aim 5 0x2000000 ∷ (soft_deeds (hart_count target.clint) 0 target.clint.msip [] ++ (Aim 7 0x2004000 ∷ (compare_deeds (hart_count target.clint) 0 target.clint.mtimecmp [] ++ (Aim 5 0x200c000 ∷ Save Double target.clint.mtime 5 (negsuc 7) 0x200bff8 ∷ []))))))))
+apart : (target : BoardState) →
+    device_deeds target ≡ marks_deeds target.plic.served [] ++ (queue_deeds target.console.queue [] ++ (Save Word (slice_index target.plic.priority 0) 3 (pos 4) 0xc000004 ∷ Save Word (slice_index target.plic.priority 1) 3 (pos 8) 0xc000008 ∷ (context_deeds (contexts_of target.plic) 0 target.plic.enable target.plic.threshold [] ++ (Save Word target.console.ctrl 2 (pos 8) 0x10000008 ∷ Save Double target.console.txaddr 2 (pos 16) 0x10000010 ∷ Aim 5 0x2000000 ∷ (soft_deeds (hart_count target.clint) 0 target.clint.msip [] ++ (Aim 7 0x2004000 ∷ (compare_deeds (hart_count target.clint) 0 target.clint.mtimecmp [] ++ (Aim 5 0x200c000 ∷ Save Double target.clint.mtime 5 (negsuc 7) 0x200bff8 ∷ []))))))))
 apart target =
     let n : ℕ = hart_count target.clint in
     let k : ℕ = contexts_of target.plic in
@@ -199,7 +239,14 @@ pub saved_as : (a b : Writer) (w : Width) (v x by at : ℕ) (off : ℤ) → v �
 saved_as a b w v x by at off is adds = subst (λ z. Dealt a b (Save w z by off at ∷ [])) is (dealt_one a b w v by at off adds)
 
 -- all deeds of the block
-pub devices_dealt : (target : BoardState) (v0 v1 v2 v3 v4 v5 v6 v7 v8 v9 v10 v11 v12 v13 : Writer) → Dealt v0 v1 (marks_deeds target.plic.served []) → Dealt v1 v2 (queue_deeds target.console.queue []) → Dealt v2 v3 (Save Word (slice_index target.plic.priority 0) 3 (pos 4) 0xc000004 ∷ []) → Dealt v3 v4 (Save Word (slice_index target.plic.priority 1) 3 (pos 8) 0xc000008 ∷ []) → Dealt v4 v5 (context_deeds (contexts_of target.plic) 0 target.plic.enable target.plic.threshold []) → Dealt v5 v6 (Save Word target.console.ctrl 2 (pos 8) 0x10000008 ∷ []) → Dealt v6 v7 (Save Double target.console.txaddr 2 (pos 16) 0x10000010 ∷ []) → Dealt v7 v8 (Aim 5 0x2000000 ∷ []) → Dealt v8 v9 (soft_deeds (hart_count target.clint) 0 target.clint.msip []) → Dealt v9 v10 (Aim 7 0x2004000 ∷ []) → Dealt v10 v11 (compare_deeds (hart_count target.clint) 0 target.clint.mtimecmp []) → Dealt v11 v12 (Aim 5 0x200c000 ∷ []) → Dealt v12 v13 (Save Double target.clint.mtime 5 (negsuc 7) 0x200bff8 ∷ []) → Dealt v0 v13 (device_deeds target)
+pub devices_dealt : (target : BoardState) (v0 v1 v2 v3 v4 v5 v6 v7 v8 v9 v10 v11 v12 v13 : Writer) → Dealt v0 v1 (marks_deeds target.plic.served []) →
+    Dealt v1 v2 (queue_deeds target.console.queue []) → Dealt v2 v3 (Save Word (slice_index target.plic.priority 0) 3 (pos 4) 0xc000004 ∷ []) →
+    Dealt v3 v4 (Save Word (slice_index target.plic.priority 1) 3 (pos 8) 0xc000008 ∷ []) →
+    Dealt v4 v5 (context_deeds (contexts_of target.plic) 0 target.plic.enable target.plic.threshold []) →
+    Dealt v5 v6 (Save Word target.console.ctrl 2 (pos 8) 0x10000008 ∷ []) → Dealt v6 v7 (Save Double target.console.txaddr 2 (pos 16) 0x10000010 ∷ []) →
+    Dealt v7 v8 (Aim 5 0x2000000 ∷ []) → Dealt v8 v9 (soft_deeds (hart_count target.clint) 0 target.clint.msip []) → Dealt v9 v10 (Aim 7 0x2004000 ∷ []) →
+    Dealt v10 v11 (compare_deeds (hart_count target.clint) 0 target.clint.mtimecmp []) → Dealt v11 v12 (Aim 5 0x200c000 ∷ []) →
+    Dealt v12 v13 (Save Double target.clint.mtime 5 (negsuc 7) 0x200bff8 ∷ []) → Dealt v0 v13 (device_deeds target)
 devices_dealt target v0 v1 v2 v3 v4 v5 v6 v7 v8 v9 v10 v11 v12 v13 p1 p2 p3 p4 p5 p6 p7 p8 p9 p10 p11 p12 p13 =
     let n : ℕ = hart_count target.clint in
     let d3 : Deed = Save Word (slice_index target.plic.priority 0) 3 (pos 4) 0xc000004 in
@@ -237,7 +284,9 @@ devices_dealt target v0 v1 v2 v3 v4 v5 v6 v7 v8 v9 v10 v11 v12 v13 p1 p2 p3 p4 p
 
 -- ---- the block's end
 
-pub far_adds : (a b d : Writer) (v n m : ℕ) → n ≡ encoded (Insn.Lui 1 (high_part v)) → m ≡ encoded (Insn.Addiw 1 1 (low_part v)) → b.code.items ≡ a.code.items ++ little_bytes 4 n → b.pool.items ≡ a.pool.items → b.place ≡ a.place → d.code.items ≡ b.code.items ++ little_bytes 4 m → d.pool.items ≡ b.pool.items → d.place ≡ b.place → Adds a d (far_insns v) []
+pub far_adds : (a b d : Writer) (v n m : ℕ) → n ≡ encoded (Insn.Lui 1 (high_part v)) → m ≡ encoded (Insn.Addiw 1 1 (low_part v)) →
+    b.code.items ≡ a.code.items ++ little_bytes 4 n → b.pool.items ≡ a.pool.items → b.place ≡ a.place → d.code.items ≡ b.code.items ++ little_bytes 4 m →
+    d.pool.items ≡ b.pool.items → d.place ≡ b.place → Adds a d (far_insns v) []
 far_adds a b d v n m n_is m_is c1 p1 l1 c2 p2 l2 = adds_join a b d (Insn.Lui 1 (high_part v) ∷ []) (Insn.Addiw 1 1 (low_part v) ∷ []) [] [] (one_adds a b (Insn.Lui 1 (high_part v)) n n_is c1 p1 l1) (one_adds b d (Insn.Addiw 1 1 (low_part v)) m m_is c2 p2 l2)
 
 -- the block's items: its deeds, and the address at which it goes on
@@ -252,6 +301,9 @@ device_adds target next a b d dealt far =
 pub device_drafted : (target : BoardState) (next : ℕ) (a b : Writer) → IsFit target → a.code.items ≡ [] → Adds a b (all_insns (device_items (offset_of a) target next)) (device_values target) → length b.code.items ≤ 1208
 device_drafted target next a b fit none adds = omega (arith, drafted (λ k. device_items k target next) (device_values target) a b (device_fixed target next) none adds, device_words target next fit)
 
-pub device_bytes_written : (target : BoardState) (next : ℕ) (a b : Writer) (n : ℕ) → a.code.items ≡ [] → a.pool.items ≡ [] → a.place ≡ pool_place (λ k. device_items k target next) → n ≡ encoded (Insn.Jalr 0 1 (pos 0)) → Adds a b (all_insns (device_items (offset_of a) target next)) (device_values target) → (b.code.items ++ little_bytes 4 n) ++ (code (padding (length b.code.items / 4 + 1)) ++ b.pool.items) ≡ device_bytes target next
+pub device_bytes_written : (target : BoardState) (next : ℕ) (a b : Writer) (n : ℕ) → a.code.items ≡ [] → a.pool.items ≡ [] →
+    a.place ≡ pool_place (λ k. device_items k target next) → n ≡ encoded (Insn.Jalr 0 1 (pos 0)) →
+    Adds a b (all_insns (device_items (offset_of a) target next)) (device_values target) →
+    (b.code.items ++ little_bytes 4 n) ++ (code (padding (length b.code.items / 4 + 1)) ++ b.pool.items) ≡ device_bytes target next
 unfolding device_bytes
 device_bytes_written target next a b n no_code no_pool place is adds = block_written (λ k. device_items k target next) (Insn.Jalr 0 1 (pos 0)) (device_values target) a b n (device_fixed target next) no_code no_pool place is adds

@@ -80,7 +80,9 @@ put_works hart block r v next known csrs some r_fits works = subst (λ x. WorksH
 at_works : (hart : Hart) (block next : ℕ) (known : Known) (csrs : Registers) → WorksHart hart block known csrs → WorksHart (at_pc hart next) block known csrs
 at_works hart block next known csrs works = record { count = works.count; nought = works.nought; one = works.one; has = works.has; csrs_are = works.csrs_are }
 
-put_does : (b : Booting) (h block r v : ℕ) (insns : List Insn) (known : Known) (csrs : Registers) → Works b h block known csrs → 1 < r → r < 32 → Spelled (length b.core.harts) (memory_of b.core) (hart_of b.core h) block (Put r v) insns → Did b h block (record { item = Put r v; insns = insns } ∷ []) (knows r v known) csrs b.board
+put_does : (b : Booting) (h block r v : ℕ) (insns : List Insn) (known : Known) (csrs : Registers) → Works b h block known csrs → 1 < r → r < 32 →
+    Spelled (length b.core.harts) (memory_of b.core) (hart_of b.core h) block (Put r v) insns →
+    Did b h block (record { item = Put r v; insns = insns } ∷ []) (knows r v known) csrs b.board
 put_does b h block r v insns known csrs works some r_fits spelled =
     let n : ℕ = length insns in
     let next : Hart = with_write (hart_of b.core h) r v (pc_after (hart_of b.core h) (4 * n)) in
@@ -97,7 +99,8 @@ put_does b h block r v insns known csrs works some r_fits spelled =
 reaches : {n : ℕ} {known : Known} {w : Width} {by : ℕ} {off : ℤ} {at : ℕ} (hart : Hart) (block : ℕ) (csrs : Registers) → WorksHart hart block known csrs → IsReached n known w by off at → offset_by (register hart by) off ≡ at
 reaches {by = by} {off = off} hart block csrs works reached = ap (λ a. offset_by a off) (works.has by reached.some reached.low) ∙ reached.place
 
-store_does : (b : Booting) (h block src v by at : ℕ) (w : Width) (off : ℤ) (known : Known) (csrs : Registers) → Works b h block known csrs → src < 32 → register (hart_of b.core h) src ≡ v → IsReached (length b.core.harts) known w by off at → sent b.core.ram b.board at (size_of w) (low_bytes (size_of w) v) ≡ [] →
+store_does : (b : Booting) (h block src v by at : ℕ) (w : Width) (off : ℤ) (known : Known) (csrs : Registers) → Works b h block known csrs → src < 32 →
+    register (hart_of b.core h) src ≡ v → IsReached (length b.core.harts) known w by off at → sent b.core.ram b.board at (size_of w) (low_bytes (size_of w) v) ≡ [] →
     Did b h block (record { item = Store (size_of w) src by off; insns = store_insn w by src off ∷ [] } ∷ []) known csrs (stored b.board at (size_of w) (low_bytes (size_of w) v))
 store_does b h block src v by at w off known csrs works src_fits got reached quiet =
     let hart : Hart = hart_of b.core h in
@@ -144,7 +147,8 @@ pub count_append : (a c : List Spelling) → word_count (a ++ c) ≡ word_count 
 count_append [] c = omega arith
 count_append (s ∷ a) c = let k = count_append a c in omega arith
 
-did_join : (b : Booting) (h block : ℕ) (items more : List Spelling) (known known' : Known) (csrs : Registers) (board board' : BoardState) (did : Did b h block items known csrs board) → Did (moved (word_count items) did.harts board b) h block more known' csrs board' → Did b h block (items ++ more) known' csrs board'
+did_join : (b : Booting) (h block : ℕ) (items more : List Spelling) (known known' : Known) (csrs : Registers) (board board' : BoardState) (did : Did b h block items known csrs board) →
+    Did (moved (word_count items) did.harts board b) h block more known' csrs board' → Did b h block (items ++ more) known' csrs board'
 did_join b h block items more known known' csrs board board' did second =
     let b1 : Booting = moved (word_count items) did.harts board b in
     let e : moved (word_count more) second.harts board' b1 ≡ moved (word_count (items ++ more)) second.harts board' b =
@@ -174,7 +178,9 @@ save_items c k w v by off =
     cond c (record { item = Store (size_of w) 0 by off; insns = store_insn w by 0 off ∷ [] } ∷ [])
     (record { item = Put 6 v; insns = put_insns k 6 v } ∷ record { item = Store (size_of w) 6 by off; insns = store_insn w by 6 off ∷ [] } ∷ [])
 
-save_does : (c : Bool) (b : Booting) (h block k v by at : ℕ) (w : Width) (off : ℤ) (known : Known) (csrs : Registers) → (v == 0) ≡ c → Works b h block known csrs → v < 2 ^ 64 → IsReached (length b.core.harts) known w by off at → sent b.core.ram b.board at (size_of w) (low_bytes (size_of w) v) ≡ [] → Pooled block k (cond c [] (put_values v)) b.core.rom →
+save_does : (c : Bool) (b : Booting) (h block k v by at : ℕ) (w : Width) (off : ℤ) (known : Known) (csrs : Registers) → (v == 0) ≡ c → Works b h block known csrs →
+    v < 2 ^ 64 → IsReached (length b.core.harts) known w by off at → sent b.core.ram b.board at (size_of w) (low_bytes (size_of w) v) ≡ [] →
+    Pooled block k (cond c [] (put_values v)) b.core.rom →
     Did b h block (save_items c k w v by off) (cond c known (knows 6 v known)) csrs (stored b.board at (size_of w) (low_bytes (size_of w) v))
 save_does true b h block k v by at w off known csrs zeros works fits reached quiet pooled =
     store_does b h block 0 v by at w off known csrs works (omega arith) (let z : v ≡ 0 = eqb-true v 0 zeros in works.hart.nought ∙ sym z) reached quiet
@@ -189,7 +195,9 @@ save_does false b h block k v by at w off known csrs zeros works fits reached qu
     did_join b h block (record { item = Put 6 v; insns = insns } ∷ []) (record { item = Store (size_of w) 6 by off; insns = store_insn w by 6 off ∷ [] } ∷ []) (knows 6 v known) (knows 6 v known) csrs b.board (stored b.board at (size_of w) (low_bytes (size_of w) v)) first
     (store_does b1 h block 6 v by at w off (knows 6 v known) csrs first.works (omega arith) (first.works.hart.has 6 (omega arith) (omega arith)) (reached_on first.stay.count from reached) quiet)
 
-deed_does : (b : Booting) (h block k : ℕ) (d : Deed) (known : Known) (csrs : Registers) → Works b h block known csrs → IsSound (length b.core.harts) b.core.ram known b.board d → Pooled block k (deed_values d) b.core.rom → Did b h block (deed_items k d) (known_after b.board d known) csrs (board_after_deed d b.board)
+deed_does : (b : Booting) (h block k : ℕ) (d : Deed) (known : Known) (csrs : Registers) → Works b h block known csrs →
+    IsSound (length b.core.harts) b.core.ram known b.board d → Pooled block k (deed_values d) b.core.rom →
+    Did b h block (deed_items k d) (known_after b.board d known) csrs (board_after_deed d b.board)
 deed_does b h block k (Aim r v) known csrs works sound pooled =
     put_does b h block r v (Insn.Lui r (pos v) ∷ []) known csrs works sound.0 (let e = sound.1 in omega arith)
     (upper r v (pos v) (let e = sound.0 in omega arith) (let e = sound.1 in omega arith) (let e = sound.2 in (omega (arith, ints), omega (arith, ints))) (let e = sound.3 in omega arith) (let e = sound.2 in omega arith))
@@ -205,7 +213,9 @@ nothing_did b h block known csrs works =
     record { harts = b.core.harts; spelled = tt; is = sym e; works = subst (λ x. Works x h block known csrs) (sym e) works; stay = stay_same h b.core.harts }
 
 -- deeds that lead to a board do so where they are executed
-pub deeds_do : (ds : List Deed) (n : ℕ) (b : Booting) (h block k : ℕ) (known : Known) (csrs : Registers) (board : BoardState) → length b.core.harts ≡ n → Works b h block known csrs → Runs n b.core.ram known b.board ds board → Pooled block k (all_deed_values ds) b.core.rom → Did b h block (placed_deeds k ds) (known_all b.board ds known) csrs board
+pub deeds_do : (ds : List Deed) (n : ℕ) (b : Booting) (h block k : ℕ) (known : Known) (csrs : Registers) (board : BoardState) → length b.core.harts ≡ n →
+    Works b h block known csrs → Runs n b.core.ram known b.board ds board → Pooled block k (all_deed_values ds) b.core.rom →
+    Did b h block (placed_deeds k ds) (known_all b.board ds known) csrs board
 deeds_do [] n b h block k known csrs board count works runs pooled = subst (λ x. Did b h block [] known csrs x) runs (nothing_did b h block known csrs works)
 deeds_do (d ∷ ds) n b h block k known csrs board count works runs pooled =
     let us : List ℕ = deed_values d in

@@ -35,7 +35,8 @@ followed_append : (a c : List Spelling) → AllFollowed a → AllFollowed c → 
 followed_append [] c first second = second
 followed_append (s ∷ a) c first second = (first.0, followed_append a c first.1 second)
 
-save_followed : (z : Bool) (k : ℕ) (w : Width) (v by : ℕ) (off : ℤ) → AllFollowed (cond z (record { item = Store (size_of w) 0 by off; insns = store_insn w by 0 off ∷ [] } ∷ []) (record { item = Put 6 v; insns = put_insns k 6 v } ∷ record { item = Store (size_of w) 6 by off; insns = store_insn w by 6 off ∷ [] } ∷ []))
+save_followed : (z : Bool) (k : ℕ) (w : Width) (v by : ℕ) (off : ℤ) →
+    AllFollowed (cond z (record { item = Store (size_of w) 0 by off; insns = store_insn w by 0 off ∷ [] } ∷ []) (record { item = Put 6 v; insns = put_insns k 6 v } ∷ record { item = Store (size_of w) 6 by off; insns = store_insn w by 6 off ∷ [] } ∷ []))
 save_followed true k w v by off = (tt, tt)
 save_followed false k w v by off = (tt, (tt, tt))
 
@@ -54,7 +55,8 @@ unfolding is_short
 far_short v small = rw (lt-ltb v 2147483648 small) refl
 
 -- the deeds of the block, done by a hart that has come to it
-pub devices_done : (b : Booting) (h block k : ℕ) (target : BoardState) (csrs : Registers) → IsFit target → length b.core.harts ≡ hart_count target.clint → b.board ≡ reset_board (hart_count target.clint) → HasCome b h block csrs → Pooled block k (all_deed_values (device_deeds target)) b.core.rom →
+pub devices_done : (b : Booting) (h block k : ℕ) (target : BoardState) (csrs : Registers) → IsFit target → length b.core.harts ≡ hart_count target.clint →
+    b.board ≡ reset_board (hart_count target.clint) → HasCome b h block csrs → Pooled block k (all_deed_values (device_deeds target)) b.core.rom →
     Did b h block (placed_deeds k (device_deeds target)) (known_all b.board (device_deeds target) (λ r. register (hart_of b.core h) r)) csrs target
 devices_done b h block k target csrs fit count fresh come pooled =
     let n : ℕ = hart_count target.clint in
@@ -73,7 +75,9 @@ pub record Led (b : Booting) (h n next : ℕ) (csrs : Registers) (board : BoardS
 
 -- a machine with its devices at reset, whose hart h has come to their block, gets these devices, and hart h comes to the
 -- next block
-pub device_block : (b : Booting) (h block k next : ℕ) (target : BoardState) (csrs : Registers) → IsFit target → length b.core.harts ≡ hart_count target.clint → b.board ≡ reset_board (hart_count target.clint) → HasCome b h block csrs → next % 8 ≡ 0 → next ≤ most_rom → Pooled block k (all_deed_values (device_deeds target)) b.core.rom →
+pub device_block : (b : Booting) (h block k next : ℕ) (target : BoardState) (csrs : Registers) → IsFit target → length b.core.harts ≡ hart_count target.clint →
+    b.board ≡ reset_board (hart_count target.clint) → HasCome b h block csrs → next % 8 ≡ 0 → next ≤ most_rom →
+    Pooled block k (all_deed_values (device_deeds target)) b.core.rom →
     StandAt (code (all_insns (device_items k target (rom_base + next))) ++ code (Insn.Jalr 0 1 (pos 0) ∷ [])) block b.core.rom →
     Led b h (word_count (device_items k target (rom_base + next)) + 1) next csrs target
 device_block b h block k next target csrs fit count fresh come even within pooled codes =

@@ -45,7 +45,8 @@ pub run_on : (n : ℕ) (ram : List ℕ) (known : Known) (b b1 b' : BoardState) (
 run_on n ram known b b1 b' d ds sound is rest = (sound, subst (λ x. Runs n ram (known_after b d known) x ds b') (sym is) rest)
 
 -- a register that is reached, where the base register's value is known
-pub reached : (n : ℕ) (known : Known) (w : Width) (by : ℕ) (off : ℤ) (at from : ℕ) → known by ≡ from → 1 < by → by < 8 → by ≢ 6 → IsSigned 12 off → offset_by from off ≡ at → at % size_of w ≡ 0 → at < base → is_listed n at (size_of w) ≡ true → IsReached n known w by off at
+pub reached : (n : ℕ) (known : Known) (w : Width) (by : ℕ) (off : ℤ) (at from : ℕ) → known by ≡ from → 1 < by → by < 8 → by ≢ 6 → IsSigned 12 off →
+    offset_by from off ≡ at → at % size_of w ≡ 0 → at < base → is_listed n at (size_of w) ≡ true → IsReached n known w by off at
 reached n known w by off at from is some low other short place aligned below listed = record {
   some = some;
   low = low;
@@ -89,7 +90,9 @@ pub enable_twice : (e : ℕ) → IsWithinSources e → bit_and (low_bytes 4 (low
 enable_twice e fits = four_masks (λ m. bit_and (low_bytes 4 (low_bytes 4 m)) source_bits ≡ m) e fits refl refl refl refl
 
 -- each context gets its enable bits and its threshold
-pub context_runs : (k c : ℕ) (enables thresholds : List ℕ) (rest : List Deed) (n : ℕ) (ram : List ℕ) (five seven : ℕ) (known : Known) (b b' : BoardState) → Points five seven known → c + k ≤ 2 * n → n ≤ 8 → context_count b.plic ≡ 2 * n → ((i : ℕ) → i < 2 * n → IsWithinSources (slice_index enables i)) → ((i : ℕ) → i < 2 * n → slice_index thresholds i ≤ 7) →
+pub context_runs : (k c : ℕ) (enables thresholds : List ℕ) (rest : List Deed) (n : ℕ) (ram : List ℕ) (five seven : ℕ) (known : Known) (b b' : BoardState) →
+    Points five seven known → c + k ≤ 2 * n → n ≤ 8 → context_count b.plic ≡ 2 * n → ((i : ℕ) → i < 2 * n → IsWithinSources (slice_index enables i)) →
+    ((i : ℕ) → i < 2 * n → slice_index thresholds i ≤ 7) →
     ((five' : ℕ) (known' : Known) → Points five' seven known' → Runs n ram known' (record b { plic = record b.plic { enable = put_x k c enables b.plic.enable; threshold = put_x k c thresholds b.plic.threshold } }) rest b') → Runs n ram known b (context_deeds k c enables thresholds rest) b'
 unfolding context_deeds put_x
 context_runs zero c enables thresholds rest n ram five seven known b b' points within most count enables_fit thresholds_fit then_rest = then_rest five known points

@@ -119,7 +119,8 @@ two_list (x ∷ []) e = absurd (omega arith)
 two_list (x ∷ y ∷ []) e = refl
 two_list (x ∷ y ∷ z ∷ xs) e = absurd (omega arith)
 
-timer_runs : (target : BoardState) (n : ℕ) (ram : List ℕ) (five seven : ℕ) (known : Known) (b : BoardState) → IsFit target → hart_count target.clint ≡ n → Points five seven known → length b.clint.msip ≡ n → length b.clint.mtimecmp ≡ n → Runs n ram known b (timer_deeds target) (record b { clint = target.clint })
+timer_runs : (target : BoardState) (n : ℕ) (ram : List ℕ) (five seven : ℕ) (known : Known) (b : BoardState) → IsFit target → hart_count target.clint ≡ n →
+    Points five seven known → length b.clint.msip ≡ n → length b.clint.mtimecmp ≡ n → Runs n ram known b (timer_deeds target) (record b { clint = target.clint })
 timer_runs target n ram five seven known b fit count points soft_count compare_count =
     let most : n ≤ 8 = (let k = fit.clint.most in omega arith) in
     let xs : List ℕ = put_x (hart_count target.clint) 0 target.clint.msip b.clint.msip in
@@ -153,7 +154,8 @@ timer_runs target n ram five seven known b fit count points soft_count compare_c
     )
 
 -- the rest of the block, behind the marks
-kept_runs : (target : BoardState) (n : ℕ) (ram : List ℕ) (five seven : ℕ) (known : Known) (c : ClintRegisters) (enables thresholds : List ℕ) → IsFit target → hart_count target.clint ≡ n → Points five seven known → length c.msip ≡ n → length c.mtimecmp ≡ n → length enables ≡ 2 * n → length thresholds ≡ 2 * n →
+kept_runs : (target : BoardState) (n : ℕ) (ram : List ℕ) (five seven : ℕ) (known : Known) (c : ClintRegisters) (enables thresholds : List ℕ) → IsFit target →
+    hart_count target.clint ≡ n → Points five seven known → length c.msip ≡ n → length c.mtimecmp ≡ n → length enables ≡ 2 * n → length thresholds ≡ 2 * n →
     Runs n ram known (record { clint = c; plic = record { priority = 1 ∷ 1 ∷ []; enable = enables; threshold = thresholds; served = target.plic.served }; console = record { queue = []; ctrl = 7; txaddr = 0 } }) (queue_deeds target.console.queue (
     Save Word (slice_index target.plic.priority 0) 3 (pos 4) 0xc000004 ∷ Save Word (slice_index target.plic.priority 1) 3 (pos 8) 0xc000008
     ∷ context_deeds (context_count target.plic) 0 target.plic.enable target.plic.threshold (

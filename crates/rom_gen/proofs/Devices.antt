@@ -29,7 +29,8 @@ unfolding translated
 data_untranslated kind size hart ram va debugs aligned = rw (eq-eqb (va % size) 0 aligned, debugs) refl
 
 -- a store to a device register
-pub stores_device : (n size value : ℕ) (hart : Hart) (memory : MemoryState) (va : ℕ) → is_in_debug hart ≡ true → va % size ≡ 0 → va < base → is_listed n va size ≡ true → stores_at n size value 4 va hart memory ≡ record { hart = at_pc hart (pc_after hart 4); memory = memory; shown = Ok (shows_store va size value); access = Stores va size (low_bytes size value) }
+pub stores_device : (n size value : ℕ) (hart : Hart) (memory : MemoryState) (va : ℕ) → is_in_debug hart ≡ true → va % size ≡ 0 → va < base → is_listed n va size ≡ true →
+    stores_at n size value 4 va hart memory ≡ record { hart = at_pc hart (pc_after hart 4); memory = memory; shown = Ok (shows_store va size value); access = Stores va size (low_bytes size value) }
 stores_device n size value hart memory va debugs aligned below listed =
     let not_ram : nat_le base va ≡ false = lt-leb _ _ below in
     ap (λ a. stores_from n size value 4 va a hart memory) (data_untranslated Kind.Store size hart memory.ram va debugs aligned) ∙ rw (not_ram, listed) refl
@@ -41,7 +42,9 @@ loads_device given n size hart memory va debugs aligned below listed =
     ap (loaded_from given n hart memory size va) (data_untranslated Kind.Load size hart memory.ram va debugs aligned) ∙ rw (not_ram, listed) refl
 
 -- a load of a number that stands in the ROM
-pub loads_pool : (given : Given) (n : ℕ) (hart : Hart) (memory : MemoryState) (q v : ℕ) (rest : List ℕ) → is_in_debug hart ≡ true → q % 8 ≡ 0 → v < 2 ^ 64 → length memory.rom ≤ most_rom → is_listed n (rom_base + q) 8 ≡ false → drop q memory.rom ≡ little_bytes 8 v ++ rest → loaded given n hart memory 8 (rom_base + q) ≡ Ok (from_memory v)
+pub loads_pool : (given : Given) (n : ℕ) (hart : Hart) (memory : MemoryState) (q v : ℕ) (rest : List ℕ) → is_in_debug hart ≡ true → q % 8 ≡ 0 → v < 2 ^ 64 →
+    length memory.rom ≤ most_rom → is_listed n (rom_base + q) 8 ≡ false → drop q memory.rom ≡ little_bytes 8 v ++ rest →
+    loaded given n hart memory 8 (rom_base + q) ≡ Ok (from_memory v)
 loads_pool given n hart memory q v rest debugs aligned fits small unlisted there =
     let within : q + 8 ≤ length memory.rom = omega (arith, room q (little_bytes 8 v) rest memory.rom there (omega arith)) in
     let not_ram : nat_le base (rom_base + q) ≡ false = lt-leb _ _ (omega arith) in
@@ -53,12 +56,15 @@ loads_pool given n hart memory q v rest debugs aligned fits small unlisted there
     ∙ rw (not_ram, unlisted, debugs, low, high, place, number) refl
 
 -- dret
-pub leave_effect : (given : Given) (n word : ℕ) (hart : Hart) (memory : MemoryState) → is_in_debug hart ≡ true → effect given n 4 word Insn.Dret hart memory ≡ goes_on (resumed (debug_returned hart.csrs) (resumed_mode hart.csrs.debug) (resumed_pc hart.csrs.debug) hart) memory
+pub leave_effect : (given : Given) (n word : ℕ) (hart : Hart) (memory : MemoryState) → is_in_debug hart ≡ true →
+    effect given n 4 word Insn.Dret hart memory ≡ goes_on (resumed (debug_returned hart.csrs) (resumed_mode hart.csrs.debug) (resumed_pc hart.csrs.debug) hart) memory
 unfolding effect
 leave_effect given n word hart memory debugs = rw debugs refl
 
 -- the step of dret
-pub leave_step : (given : Given) (n h : ℕ) (hart : Hart) (memory : MemoryState) (p : ℕ) (rest : List ℕ) → Stands memory hart p → given.interrupt ≡ None → drop p memory.rom ≡ little_bytes 4 (encoded Insn.Dret) ++ rest → Does memory (hart_step given n h hart memory) None (resumed (debug_returned hart.csrs) (resumed_mode hart.csrs.debug) (resumed_pc hart.csrs.debug) hart) Untouched
+pub leave_step : (given : Given) (n h : ℕ) (hart : Hart) (memory : MemoryState) (p : ℕ) (rest : List ℕ) → Stands memory hart p → given.interrupt ≡ None →
+    drop p memory.rom ≡ little_bytes 4 (encoded Insn.Dret) ++ rest →
+    Does memory (hart_step given n h hart memory) None (resumed (debug_returned hart.csrs) (resumed_mode hart.csrs.debug) (resumed_pc hart.csrs.debug) hart) Untouched
 unfolding encoded
 leave_step given n h hart memory p rest stands none there =
     let word : ℕ = encoded Insn.Dret in

@@ -40,7 +40,10 @@ use Rattle.rom_gen.proofs.RomParts.{entry_stands}
 abbrev pub at_place : Hart → List ℕ → ℕ → Hart
 at_place hart xs p = record hart { x = xs; pc = rom_base + p }
 
-write_step : (given : Given) (n h : ℕ) (hart : Hart) (memory : MemoryState) (p r v : ℕ) (insn : Insn) (rest : List ℕ) → Stands memory hart p → given.interrupt ≡ None → IsInRange insn → IsWord (encoded insn) → drop p memory.rom ≡ little_bytes 4 (encoded insn) ++ rest → effect given n 4 (encoded insn) insn hart memory ≡ writes r v (pc_after hart 4) hart memory → Does memory (hart_step given n h hart memory) None (with_write hart r v (pc_after hart 4)) Untouched
+write_step : (given : Given) (n h : ℕ) (hart : Hart) (memory : MemoryState) (p r v : ℕ) (insn : Insn) (rest : List ℕ) → Stands memory hart p → given.interrupt ≡ None →
+    IsInRange insn → IsWord (encoded insn) → drop p memory.rom ≡ little_bytes 4 (encoded insn) ++ rest →
+    effect given n 4 (encoded insn) insn hart memory ≡ writes r v (pc_after hart 4) hart memory →
+    Does memory (hart_step given n h hart memory) None (with_write hart r v (pc_after hart 4)) Untouched
 write_step given n h hart memory p r v insn rest stands none range word there is =
     subst (λ a. Does memory a None (with_write hart r v (pc_after hart 4)) Untouched)
     (sym (at_word given n h hart memory p rest insn stands none range word there ∙ ap (shows h hart (encoded insn)) is))
@@ -51,7 +54,10 @@ record Reaches (b : Booting) (h n p : ℕ) (hart : Hart) (xs : List ℕ) : Type 
   leads : Leads h n b (becomes h n (at_place hart xs p) b)
   stands : Stands (memory_of b.core) (at_place hart xs p) p
 
-next_word : (b : Booting) (h n p r v : ℕ) (hart : Hart) (xs : List ℕ) (insn : Insn) (after : List Insn) → h < length b.core.harts → 0 < r → IsInRange insn → IsWord (encoded insn) → StandAt (code (insn ∷ after)) p b.core.rom → ((given : Given) → effect given (length b.core.harts) 4 (encoded insn) insn (at_place hart xs p) (memory_of b.core) ≡ writes r v (pc_after (at_place hart xs p) 4) (at_place hart xs p) (memory_of b.core)) → Reaches b h n p hart xs → Reaches b h (n + 1) (p + 4) hart (slice_set xs r v)
+next_word : (b : Booting) (h n p r v : ℕ) (hart : Hart) (xs : List ℕ) (insn : Insn) (after : List Insn) → h < length b.core.harts → 0 < r → IsInRange insn →
+    IsWord (encoded insn) → StandAt (code (insn ∷ after)) p b.core.rom →
+    ((given : Given) → effect given (length b.core.harts) 4 (encoded insn) insn (at_place hart xs p) (memory_of b.core) ≡ writes r v (pc_after (at_place hart xs p) 4) (at_place hart xs p) (memory_of b.core)) →
+    Reaches b h n p hart xs → Reaches b h (n + 1) (p + 4) hart (slice_set xs r v)
 next_word b h n p r v hart xs insn after inside some range word there does reached =
     let here : Hart = at_place hart xs p in
     let b1 : Booting = becomes h n here b in
@@ -87,7 +93,8 @@ shift_effect : (given : Given) (n word : ℕ) (hart : Hart) (memory : MemoryStat
 unfolding effect
 shift_effect given n word hart memory small = let e : alu_of BinOp.Sll (register hart 2) 3 ≡ 8 * register hart 2 = omega arith in ap (λ x. writes 2 x (pc_after hart 4) hart memory) e
 
-place_effect : (given : Given) (n p word : ℕ) (hart : Hart) (xs : List ℕ) (memory : MemoryState) → p < 2 ^ 32 → effect given n 4 word (Insn.Auipc 1 (pos 0)) (at_place hart xs p) memory ≡ writes 1 (rom_base + p) (pc_after (at_place hart xs p) 4) (at_place hart xs p) memory
+place_effect : (given : Given) (n p word : ℕ) (hart : Hart) (xs : List ℕ) (memory : MemoryState) → p < 2 ^ 32 →
+    effect given n 4 word (Insn.Auipc 1 (pos 0)) (at_place hart xs p) memory ≡ writes 1 (rom_base + p) (pc_after (at_place hart xs p) 4) (at_place hart xs p) memory
 unfolding effect
 place_effect given n p word hart xs memory small = let e : offset_by (rom_base + p) (pos 0) ≡ rom_base + p = omega arith in ap (λ v. writes 1 v (pc_after (at_place hart xs p) 4) (at_place hart xs p) memory) e
 

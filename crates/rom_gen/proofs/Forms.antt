@@ -52,7 +52,9 @@ no_device n at size low =
 -- ---- ld of a pool's value
 
 -- the load gives the value that stands in the pool
-pub pooled_effect : (given : Given) (n : ℕ) (hart : Hart) (memory : MemoryState) (word r v block off : ℕ) → is_in_debug hart ≡ true → v < 2 ^ 64 → (block + off) % 8 ≡ 0 → off < 2048 → length memory.rom ≤ most_rom → register hart 1 ≡ rom_base + block → StandAt (little_bytes 8 v) (block + off) memory.rom → effect given n 4 word (Insn.Ld r 1 (pos off)) hart memory ≡ writes r v (pc_after hart 4) hart memory
+pub pooled_effect : (given : Given) (n : ℕ) (hart : Hart) (memory : MemoryState) (word r v block off : ℕ) → is_in_debug hart ≡ true → v < 2 ^ 64 → (block + off) % 8 ≡ 0 →
+    off < 2048 → length memory.rom ≤ most_rom → register hart 1 ≡ rom_base + block → StandAt (little_bytes 8 v) (block + off) memory.rom →
+    effect given n 4 word (Insn.Ld r 1 (pos off)) hart memory ≡ writes r v (pc_after hart 4) hart memory
 unfolding effect
 pooled_effect given n hart memory word r v block off debugs fits aligned near small at there =
     let within : block + off + 8 ≤ length memory.rom = omega (arith, room (block + off) (little_bytes 8 v) there.0 memory.rom there.1 (omega arith)) in
@@ -60,7 +62,10 @@ pooled_effect given n hart memory word r v block off debugs fits aligned near sm
     let e : loaded given n hart memory 8 (offset_by (register hart 1) (pos off)) ≡ Ok (from_memory v) = ap (loaded given n hart memory 8) va ∙ loads_pool given n hart memory (block + off) v there.0 debugs aligned fits small (no_device n (rom_base + (block + off)) 8 (omega arith)) there.1 in
     rw e (ap (λ x. writes r x (pc_after hart 4) hart memory) (same_64 v fits))
 
-pub pooled_step : (given : Given) (n h : ℕ) (hart : Hart) (memory : MemoryState) (p r v block off : ℕ) (rest : List ℕ) → Stands memory hart p → given.interrupt ≡ None → r < 32 → v < 2 ^ 64 → (block + off) % 8 ≡ 0 → off < 2048 → register hart 1 ≡ rom_base + block → StandAt (little_bytes 8 v) (block + off) memory.rom → drop p memory.rom ≡ little_bytes 4 (encoded (Insn.Ld r 1 (pos off))) ++ rest → Does memory (hart_step given n h hart memory) None (with_write hart r v (pc_after hart 4)) Untouched
+pub pooled_step : (given : Given) (n h : ℕ) (hart : Hart) (memory : MemoryState) (p r v block off : ℕ) (rest : List ℕ) → Stands memory hart p → given.interrupt ≡ None →
+    r < 32 → v < 2 ^ 64 → (block + off) % 8 ≡ 0 → off < 2048 → register hart 1 ≡ rom_base + block → StandAt (little_bytes 8 v) (block + off) memory.rom →
+    drop p memory.rom ≡ little_bytes 4 (encoded (Insn.Ld r 1 (pos off))) ++ rest →
+    Does memory (hart_step given n h hart memory) None (with_write hart r v (pc_after hart 4)) Untouched
 unfolding encoded
 pooled_step given n h hart memory p r v block off rest stands none r_fits fits aligned near at pool there =
     let word : ℕ = encoded (Insn.Ld r 1 (pos off)) in
@@ -75,7 +80,9 @@ pooled_step given n h hart memory p r v block off rest stands none r_fits fits a
 bits_20 : (z : ℤ) → bits_of (modulo 32 z) 12 20 < 1048576
 bits_20 z = omega arith
 
-pub upper_step : (given : Given) (n h : ℕ) (hart : Hart) (memory : MemoryState) (p r v : ℕ) (imm : ℤ) (rest : List ℕ) → Stands memory hart p → given.interrupt ≡ None → r < 32 → IsSigned 32 imm → IsMultiple 12 imm → modulo 64 imm ≡ v → drop p memory.rom ≡ little_bytes 4 (encoded (Insn.Lui r imm)) ++ rest → Does memory (hart_step given n h hart memory) None (with_write hart r v (pc_after hart 4)) Untouched
+pub upper_step : (given : Given) (n h : ℕ) (hart : Hart) (memory : MemoryState) (p r v : ℕ) (imm : ℤ) (rest : List ℕ) → Stands memory hart p → given.interrupt ≡ None →
+    r < 32 → IsSigned 32 imm → IsMultiple 12 imm → modulo 64 imm ≡ v → drop p memory.rom ≡ little_bytes 4 (encoded (Insn.Lui r imm)) ++ rest →
+    Does memory (hart_step given n h hart memory) None (with_write hart r v (pc_after hart 4)) Untouched
 unfolding encoded effect
 upper_step given n h hart memory p r v imm rest stands none r_fits is_signed multiple is there =
     let word : ℕ = encoded (Insn.Lui r imm) in
@@ -85,7 +92,9 @@ upper_step given n h hart memory p r v imm rest stands none r_fits is_signed mul
     ∙ ap (λ x. shows h hart word (writes r x (pc_after hart 4) hart memory)) is))
     (does_effect h hart next memory word (writes r v (pc_after hart 4) hart memory) (shows_write r v) Untouched stands.debugs refl refl refl refl)
 
-pub low_step : (given : Given) (n h : ℕ) (hart : Hart) (memory : MemoryState) (p r v : ℕ) (imm : ℤ) (rest : List ℕ) → Stands memory hart p → given.interrupt ≡ None → r < 32 → IsSigned 12 imm → alu_of BinOp.Addw (register hart r) (modulo 64 imm) ≡ v → drop p memory.rom ≡ little_bytes 4 (encoded (Insn.Addiw r r imm)) ++ rest → Does memory (hart_step given n h hart memory) None (with_write hart r v (pc_after hart 4)) Untouched
+pub low_step : (given : Given) (n h : ℕ) (hart : Hart) (memory : MemoryState) (p r v : ℕ) (imm : ℤ) (rest : List ℕ) → Stands memory hart p → given.interrupt ≡ None →
+    r < 32 → IsSigned 12 imm → alu_of BinOp.Addw (register hart r) (modulo 64 imm) ≡ v → drop p memory.rom ≡ little_bytes 4 (encoded (Insn.Addiw r r imm)) ++ rest →
+    Does memory (hart_step given n h hart memory) None (with_write hart r v (pc_after hart 4)) Untouched
 unfolding encoded effect
 low_step given n h hart memory p r v imm rest stands none r_fits is_signed is there =
     let word : ℕ = encoded (Insn.Addiw r r imm) in
@@ -100,7 +109,9 @@ low_step given n h hart memory p r v imm rest stands none r_fits is_signed is th
 even_nothing : (a : ℕ) → a < 2 ^ 64 → offset_by a (pos 0) ≡ a
 even_nothing a fits = omega arith
 
-pub go_step : (given : Given) (n h : ℕ) (hart : Hart) (memory : MemoryState) (p r : ℕ) (rest : List ℕ) → Stands memory hart p → given.interrupt ≡ None → r < 32 → register hart r < 2 ^ 64 → drop p memory.rom ≡ little_bytes 4 (encoded (Insn.Jalr 0 r (pos 0))) ++ rest → Does memory (hart_step given n h hart memory) None (at_pc hart (even_part (register hart r))) Untouched
+pub go_step : (given : Given) (n h : ℕ) (hart : Hart) (memory : MemoryState) (p r : ℕ) (rest : List ℕ) → Stands memory hart p → given.interrupt ≡ None → r < 32 →
+    register hart r < 2 ^ 64 → drop p memory.rom ≡ little_bytes 4 (encoded (Insn.Jalr 0 r (pos 0))) ++ rest →
+    Does memory (hart_step given n h hart memory) None (at_pc hart (even_part (register hart r))) Untouched
 unfolding encoded effect
 go_step given n h hart memory p r rest stands none r_fits fits there =
     let word : ℕ = encoded (Insn.Jalr 0 r (pos 0)) in
@@ -133,7 +144,10 @@ store_effect given Word n word r at off hart memory = refl
 store_effect given Double n word r at off hart memory = refl
 
 -- a store of any width
-pub store_step : (w : Width) (given : Given) (n h : ℕ) (hart : Hart) (memory : MemoryState) (p r at : ℕ) (off : ℤ) (rest : List ℕ) → Stands memory hart p → given.interrupt ≡ None → r < 32 → at < 32 → IsSigned 12 off → offset_by (register hart at) off % size_of w ≡ 0 → offset_by (register hart at) off < base → is_device n (offset_by (register hart at) off) (size_of w) ≡ true → drop p memory.rom ≡ little_bytes 4 (encoded (store_insn w at r off)) ++ rest → Does memory (hart_step given n h hart memory) (Some (record { at = offset_by (register hart at) off; size = size_of w; value = low_bytes (size_of w) (register hart r) })) (at_pc hart (pc_after hart 4)) (Stores (offset_by (register hart at) off) (size_of w) (low_bytes (size_of w) (register hart r)))
+pub store_step : (w : Width) (given : Given) (n h : ℕ) (hart : Hart) (memory : MemoryState) (p r at : ℕ) (off : ℤ) (rest : List ℕ) → Stands memory hart p →
+    given.interrupt ≡ None → r < 32 → at < 32 → IsSigned 12 off → offset_by (register hart at) off % size_of w ≡ 0 → offset_by (register hart at) off < base →
+    is_device n (offset_by (register hart at) off) (size_of w) ≡ true → drop p memory.rom ≡ little_bytes 4 (encoded (store_insn w at r off)) ++ rest →
+    Does memory (hart_step given n h hart memory) (Some (record { at = offset_by (register hart at) off; size = size_of w; value = low_bytes (size_of w) (register hart r) })) (at_pc hart (pc_after hart 4)) (Stores (offset_by (register hart at) off) (size_of w) (low_bytes (size_of w) (register hart r)))
 store_step w given n h hart memory p r at off rest stands none r_fits at_fits is_signed aligned below device there =
     let word : ℕ = encoded (store_insn w at r off) in
     let va : ℕ = offset_by (register hart at) off in
@@ -170,14 +184,19 @@ load_effect_of given va size r hart memory = record {
   access = Loads va size;
 }
 
-load_effect : (given : Given) (w : Width) (n word r at : ℕ) (off : ℤ) (hart : Hart) (memory : MemoryState) → loaded given n hart memory (size_of w) (offset_by (register hart at) off) ≡ Ok (from_device given (offset_by (register hart at) off) (size_of w)) → effect given n 4 word (load_insn w r at off) hart memory ≡ load_effect_of given (offset_by (register hart at) off) (size_of w) r hart memory
+load_effect : (given : Given) (w : Width) (n word r at : ℕ) (off : ℤ) (hart : Hart) (memory : MemoryState) →
+    loaded given n hart memory (size_of w) (offset_by (register hart at) off) ≡ Ok (from_device given (offset_by (register hart at) off) (size_of w)) →
+    effect given n 4 word (load_insn w r at off) hart memory ≡ load_effect_of given (offset_by (register hart at) off) (size_of w) r hart memory
 unfolding effect
 load_effect given Byte n word r at off hart memory e = rw e refl
 load_effect given Word n word r at off hart memory e = rw e refl
 load_effect given Double n word r at off hart memory e = rw e refl
 
 -- and a load
-pub load_step : (w : Width) (given : Given) (n h : ℕ) (hart : Hart) (memory : MemoryState) (p r at : ℕ) (off : ℤ) (rest : List ℕ) → Stands memory hart p → given.interrupt ≡ None → r < 32 → at < 32 → IsSigned 12 off → offset_by (register hart at) off % size_of w ≡ 0 → offset_by (register hart at) off < base → is_device n (offset_by (register hart at) off) (size_of w) ≡ true → drop p memory.rom ≡ little_bytes 4 (encoded (load_insn w r at off)) ++ rest → Does memory (hart_step given n h hart memory) None (with_write hart r (extended (size_of w) (given.device (offset_by (register hart at) off) (size_of w))) (pc_after hart 4)) (Loads (offset_by (register hart at) off) (size_of w))
+pub load_step : (w : Width) (given : Given) (n h : ℕ) (hart : Hart) (memory : MemoryState) (p r at : ℕ) (off : ℤ) (rest : List ℕ) → Stands memory hart p →
+    given.interrupt ≡ None → r < 32 → at < 32 → IsSigned 12 off → offset_by (register hart at) off % size_of w ≡ 0 → offset_by (register hart at) off < base →
+    is_device n (offset_by (register hart at) off) (size_of w) ≡ true → drop p memory.rom ≡ little_bytes 4 (encoded (load_insn w r at off)) ++ rest →
+    Does memory (hart_step given n h hart memory) None (with_write hart r (extended (size_of w) (given.device (offset_by (register hart at) off) (size_of w))) (pc_after hart 4)) (Loads (offset_by (register hart at) off) (size_of w))
 load_step w given n h hart memory p r at off rest stands none r_fits at_fits is_signed aligned below device there =
     let word : ℕ = encoded (load_insn w r at off) in
     let va : ℕ = offset_by (register hart at) off in

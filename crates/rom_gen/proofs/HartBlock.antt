@@ -17,7 +17,8 @@ use Rattle.rom_gen.specs.ItemEffects.{AllSpelled, all_do, becomes, rom_while, Is
 use Rattle.rom_gen.specs.Items.{Go, Item, Leave, leave, Put, Csr, CsrImm, Store, Load, Spelling, StandAt, all_insns, code, word_count, Stands}
 use Rattle.hart_step.specs.DebugReset.{debug_registers}
 use Rattle.rom_gen.specs.HartWants.{controls, first_wants, registers}
-use Rattle.rom_gen.specs.Wants.{Pooled, Want, Reg, AllGood, AllInner, AllKeep, IsGood, IsInner, IsLayout, Leaves, all_csrs, all_values, hart_all, placed, pool}
+use Rattle.rom_gen.specs.Wants.{Pooled, Want, Reg, all_values, hart_all, placed, pool}
+use Rattle.rom_gen.proofs.Layouts.{AllGood, AllInner, AllKeep, IsGood, IsInner, IsLayout, Leaves, all_csrs}
 use Rattle.rom_gen.proofs.Blocks.{inner_block}
 use Rattle.rom_gen.proofs.HartWants.{AllControl, SameBut2, controls_restore, csrs_append, numbered_csrs, controls_x, numbered_x, put_x, x_restored}
 use Rattle.rom_gen.proofs.ItemSteps.{AllFollowed, code_length, item_steps, items_lead, stand_first, stand_second}
@@ -58,7 +59,8 @@ insns_count [] = refl
 insns_count (s ∷ items) = length-append s.insns (all_insns items) ∙ ap (λ k. length s.insns + k) (insns_count items)
 
 -- a hart that is freed after it became another
-pub freed_moved : (h n m : ℕ) (first hart : Hart) (one two : BoardState) (b : Booting) → freed h m hart two (record { core = record b.core { harts = slice_set b.core.harts h first }; board = one; console = b.console; steps = b.steps + n }) ≡ freed h (n + m) hart two b
+pub freed_moved : (h n m : ℕ) (first hart : Hart) (one two : BoardState) (b : Booting) →
+    freed h m hart two (record { core = record b.core { harts = slice_set b.core.harts h first }; board = one; console = b.console; steps = b.steps + n }) ≡ freed h (n + m) hart two b
 freed_moved h n m first hart one two b =
     ap (λ hs. record { core = record { harts = hs; ram = b.core.ram; rom = rom_while hs b.core.rom }; board = two; console = b.console; steps = b.steps + n + m }) (set-set b.core.harts h first hart)
     ∙ ap (λ k. record { core = record { harts = slice_set b.core.harts h hart; ram = b.core.ram; rom = rom_while (slice_set b.core.harts h hart) b.core.rom }; board = two; console = b.console; steps = k }) (add_assoc b.steps n m)
@@ -68,7 +70,8 @@ abbrev pub block_items : (ℕ → Want → List Spelling) → (Want → List ℕ
 block_items spell values off target = placed spell values off (first_wants target) ++ spell (off + 8 * length (all_values values (first_wants target))) (Reg 1 (slice_index target.x 1))
 
 -- the block frees the hart that it was made from
-pub hart_block : {spell : ℕ → Want → List Spelling} {values : Want → List ℕ} → IsLayout spell values → (b : Booting) (h block off : ℕ) (target : Hart) → IsTarget target → HasCome b h block (debug_registers target.csrs.hart) → (hart_of b.core h).reservation ≡ None →
+pub hart_block : {spell : ℕ → Want → List Spelling} {values : Want → List ℕ} → IsLayout spell values → (b : Booting) (h block off : ℕ) (target : Hart) → IsTarget target →
+    HasCome b h block (debug_registers target.csrs.hart) → (hart_of b.core h).reservation ≡ None →
     Pooled block off (all_values values (first_wants target) ++ values (Reg 1 (slice_index target.x 1))) b.core.rom →
     StandAt (code (all_insns (block_items spell values off target)) ++ code (Insn.Dret ∷ [])) block b.core.rom →
     Frees h (word_count (block_items spell values off target) + 1) b (freed h (word_count (block_items spell values off target) + 1) (unreserved_hart target) b.board b)

@@ -16,7 +16,8 @@ use Rattle.rom_gen.specs.Items.{Spelling}
 use Rattle.rom_gen.specs.HartWants.{controls, numbered, slot_wants}
 use Rattle.hart_step.specs.DebugReset.{debug_registers}
 use Rattle.rom_gen.proofs.Registers.{put_back, debug_back, kept_back}
-use Rattle.rom_gen.specs.Wants.{Want, Reg, Control, AllGood, IsLayout, Leaves, all_csrs, hart_all, placed}
+use Rattle.rom_gen.specs.Wants.{Want, Reg, Control, hart_all, placed}
+use Rattle.rom_gen.proofs.Layouts.{AllGood, IsLayout, Leaves, all_csrs}
 use Rattle.rom_gen.proofs.Placed.{count_kept, hart_append}
 
 pub csrs_append : (a c : List Want) (r : Registers) → all_csrs (a ++ c) r ≡ all_csrs c (all_csrs a r)
@@ -30,7 +31,8 @@ slots_are target r [] = refl
 slots_are target r (s ∷ slots) = slots_are target (written s.number (kept_value s.number target) r) slots
 
 -- registers_restored, whatever the spelling
-pub controls_restore : (target : Hart) → IsFit target.csrs → ((old : ℕ) → legal csr_dpc old target.pc ≡ target.pc) → all_csrs (controls target) (debug_registers target.csrs.hart) ≡ record target.csrs { debug = Some (record reset_debug_registers { dcsr = dcsr_fixed + level target.mode; dpc = target.pc }) }
+pub controls_restore : (target : Hart) → IsFit target.csrs → ((old : ℕ) → legal csr_dpc old target.pc ≡ target.pc) →
+    all_csrs (controls target) (debug_registers target.csrs.hart) ≡ record target.csrs { debug = Some (record reset_debug_registers { dcsr = dcsr_fixed + level target.mode; dpc = target.pc }) }
 controls_restore target fit even =
     let last : List Want = Control csr_dcsr (dcsr_fixed + level target.mode) ∷ Control csr_dpc target.pc ∷ [] in
     csrs_append (slot_wants target.csrs kept_slots) last (debug_registers target.csrs.hart)
@@ -71,7 +73,8 @@ put_x zero i wanted xs = xs
 put_x (suc n) i wanted xs = put_x n (suc i) wanted (slice_set xs i (slice_index wanted i))
 
 -- x registers are put one after another
-pub numbered_x : {spell : ℕ → Want → List Spelling} {values : Want → List ℕ} → IsLayout spell values → (off n i : ℕ) (wanted : List ℕ) (hart : Hart) → AllGood (numbered n i wanted) → length hart.x ≡ 32 → (hart_all (placed spell values off (numbered n i wanted)) hart).x ≡ put_x n i wanted hart.x
+pub numbered_x : {spell : ℕ → Want → List Spelling} {values : Want → List ℕ} → IsLayout spell values → (off n i : ℕ) (wanted : List ℕ) (hart : Hart) →
+    AllGood (numbered n i wanted) → length hart.x ≡ 32 → (hart_all (placed spell values off (numbered n i wanted)) hart).x ≡ put_x n i wanted hart.x
 unfolding numbered put_x
 numbered_x layout off zero i wanted hart good count = refl
 numbered_x {spell = spell} {values = values} layout off (suc n) i wanted hart good count =

@@ -37,14 +37,19 @@ moves_join true h a c b b' b'' first second = frees_join h a c b b' b'' first se
 moves_join false h a c b b' b'' first second = leads_join h a c b b' b'' first second
 
 -- after one item the list ends, or its others are executed
-last_or_more : (h : ℕ) (s : Spelling) (rest : List Spelling) (b : Booting) → Moves (is_leave s.item) h (length s.insns) b (does h (length s.insns) s.item b) → ButLastFollowed (s ∷ rest) → (IsFollowed s.item → ButLastFollowed rest → Moves (ends_in_leave rest) h (word_count rest) (does h (length s.insns) s.item b) (all_do h rest (does h (length s.insns) s.item b))) → Moves (ends_in_leave (s ∷ rest)) h (word_count (s ∷ rest)) b (all_do h (s ∷ rest) b)
+last_or_more : (h : ℕ) (s : Spelling) (rest : List Spelling) (b : Booting) → Moves (is_leave s.item) h (length s.insns) b (does h (length s.insns) s.item b) →
+    ButLastFollowed (s ∷ rest) →
+    (IsFollowed s.item → ButLastFollowed rest → Moves (ends_in_leave rest) h (word_count rest) (does h (length s.insns) s.item b) (all_do h rest (does h (length s.insns) s.item b))) →
+    Moves (ends_in_leave (s ∷ rest)) h (word_count (s ∷ rest)) b (all_do h (s ∷ rest) b)
 last_or_more h s [] b one followed more = subst (λ n. Moves (is_leave s.item) h n b (does h (length s.insns) s.item b)) (sym (add-zero (length s.insns))) one
 last_or_more h s (next ∷ rest) b one followed more =
     let n : ℕ = length s.insns in
     let b1 : Booting = does h n s.item b in
     moves_join (ends_in_leave (next ∷ rest)) h n (word_count (next ∷ rest)) b b1 (all_do h (next ∷ rest) b1) (followed_leads s.item followed.0 h n b b1 one) (more followed.0 followed.1)
 
-items_move : (b : Booting) (h place block : ℕ) (items : List Spelling) → h < length b.core.harts → Stands (memory_of b.core) (hart_of b.core h) place → AllSpelled h block items b → ButLastFollowed items → StandAt (code (all_insns items)) place b.core.rom → Moves (ends_in_leave items) h (word_count items) b (all_do h items b)
+items_move : (b : Booting) (h place block : ℕ) (items : List Spelling) → h < length b.core.harts → Stands (memory_of b.core) (hart_of b.core h) place →
+    AllSpelled h block items b → ButLastFollowed items → StandAt (code (all_insns items)) place b.core.rom →
+    Moves (ends_in_leave items) h (word_count items) b (all_do h items b)
 items_move b h place block [] inside stands spelled followed there = none_lead h b
 items_move b h place block (s ∷ rest) inside stands spelled followed there =
     let n : ℕ = length s.insns in

@@ -41,27 +41,36 @@ unfolding picked
 unpicked r mode live debugs = rw debugs refl
 
 -- a hart steps as the step lemmas say, where it is the one at place h
-leads_at : (b : Booting) (h : ℕ) (hart next : Hart) (st : Option Stored) (access : Access) → h < length b.core.harts → hart_of b.core h ≡ hart → is_in_debug hart ≡ true → is_in_debug next ≡ true → ((given : Given) → given.interrupt ≡ None → Does (memory_of b.core) (hart_step given (length b.core.harts) h hart (memory_of b.core)) st next access) → Leads h 1 b (acted h st next b.core.rom access b)
+leads_at : (b : Booting) (h : ℕ) (hart next : Hart) (st : Option Stored) (access : Access) → h < length b.core.harts → hart_of b.core h ≡ hart → is_in_debug hart ≡ true →
+    is_in_debug next ≡ true →
+    ((given : Given) → given.interrupt ≡ None → Does (memory_of b.core) (hart_step given (length b.core.harts) h hart (memory_of b.core)) st next access) →
+    Leads h 1 b (acted h st next b.core.rom access b)
 leads_at b h hart next st access inside is debugs still step =
     let here : Does (memory_of b.core) (hart_step (board_gives b.board h (hart_of b.core h)) (length b.core.harts) h (hart_of b.core h) (memory_of b.core)) st next access =
     subst (λ x. Does (memory_of b.core) (hart_step (board_gives b.board h x) (length b.core.harts) h x (memory_of b.core)) st next access) (sym is) (step (board_gives b.board h hart) (unpicked hart.csrs hart.mode _ debugs)) in
     leads_step b h (hart_step (board_gives b.board h (hart_of b.core h)) (length b.core.harts) h (hart_of b.core h) (memory_of b.core)) st next access inside refl here still
 
 -- the same where the step is known under what the board gives it alone
-leads_given : (b : Booting) (h : ℕ) (hart next : Hart) (st : Option Stored) (access : Access) → h < length b.core.harts → hart_of b.core h ≡ hart → is_in_debug hart ≡ true → is_in_debug next ≡ true → Does (memory_of b.core) (hart_step (board_gives b.board h hart) (length b.core.harts) h hart (memory_of b.core)) st next access → Leads h 1 b (acted h st next b.core.rom access b)
+leads_given : (b : Booting) (h : ℕ) (hart next : Hart) (st : Option Stored) (access : Access) → h < length b.core.harts → hart_of b.core h ≡ hart →
+    is_in_debug hart ≡ true → is_in_debug next ≡ true →
+    Does (memory_of b.core) (hart_step (board_gives b.board h hart) (length b.core.harts) h hart (memory_of b.core)) st next access →
+    Leads h 1 b (acted h st next b.core.rom access b)
 leads_given b h hart next st access inside is debugs still step =
     let here : Does (memory_of b.core) (hart_step (board_gives b.board h (hart_of b.core h)) (length b.core.harts) h (hart_of b.core h) (memory_of b.core)) st next access =
     subst (λ x. Does (memory_of b.core) (hart_step (board_gives b.board h x) (length b.core.harts) h x (memory_of b.core)) st next access) (sym is) step in
     leads_step b h (hart_step (board_gives b.board h (hart_of b.core h)) (length b.core.harts) h (hart_of b.core h) (memory_of b.core)) st next access inside refl here still
 
-quiet_load : (b : Booting) (h at size : ℕ) (hart : Hart) → acted h None hart b.core.rom (Loads at size) b ≡ record { core = record b.core { harts = slice_set b.core.harts h hart }; board = board_after b.board (Loads at size); console = b.console; steps = b.steps + 1 }
+quiet_load : (b : Booting) (h at size : ℕ) (hart : Hart) →
+    acted h None hart b.core.rom (Loads at size) b ≡ record { core = record b.core { harts = slice_set b.core.harts h hart }; board = board_after b.board (Loads at size); console = b.console; steps = b.steps + 1 }
 quiet_load b h at size hart = ap (λ c. record { core = record b.core { harts = slice_set b.core.harts h hart }; board = board_after b.board (Loads at size); console = c; steps = b.steps + 1 }) (append-nil b.console)
 
 pub quiet : (b : Booting) (h : ℕ) (hart : Hart) → acted h None hart b.core.rom Untouched b ≡ becomes h 1 hart b
 quiet b h hart = ap (λ c. record { core = record b.core { harts = slice_set b.core.harts h hart }; board = b.board; console = c; steps = b.steps + 1 }) (append-nil b.console)
 
 -- a step that reaches no device
-pub leads_quiet : (b : Booting) (h : ℕ) (hart next : Hart) → h < length b.core.harts → hart_of b.core h ≡ hart → is_in_debug hart ≡ true → is_in_debug next ≡ true → ((given : Given) → given.interrupt ≡ None → Does (memory_of b.core) (hart_step given (length b.core.harts) h hart (memory_of b.core)) None next Untouched) → Leads h 1 b (becomes h 1 next b)
+pub leads_quiet : (b : Booting) (h : ℕ) (hart next : Hart) → h < length b.core.harts → hart_of b.core h ≡ hart → is_in_debug hart ≡ true → is_in_debug next ≡ true →
+    ((given : Given) → given.interrupt ≡ None → Does (memory_of b.core) (hart_step given (length b.core.harts) h hart (memory_of b.core)) None next Untouched) →
+    Leads h 1 b (becomes h 1 next b)
 leads_quiet b h hart next inside is debugs still step = subst (λ x. Leads h 1 b x) (quiet b h next) (leads_at b h hart next None Untouched inside is debugs still step)
 
 -- ---- out of debug mode
@@ -92,7 +101,9 @@ leave_frees b h p inside stands there =
 -- ---- the law
 
 -- by cases on the spelling
-pub item_steps : (b : Booting) (h p block : ℕ) (item : Item) (insns : List Insn) → h < length b.core.harts → Stands (memory_of b.core) (hart_of b.core h) p → Spelled (length b.core.harts) (memory_of b.core) (hart_of b.core h) block item insns → StandAt (code insns) p b.core.rom → Moves (is_leave item) h (length insns) b (does h (length insns) item b)
+pub item_steps : (b : Booting) (h p block : ℕ) (item : Item) (insns : List Insn) → h < length b.core.harts → Stands (memory_of b.core) (hart_of b.core h) p →
+    Spelled (length b.core.harts) (memory_of b.core) (hart_of b.core h) block item insns → StandAt (code insns) p b.core.rom →
+    Moves (is_leave item) h (length insns) b (does h (length insns) item b)
 item_steps b h p block _ _ inside stands (small r v imm some r_fits is_signed is) there =
     let hart : Hart = hart_of b.core h in
     leads_quiet b h hart (with_write hart r v (pc_after hart 4)) inside refl stands.debugs (debugs_put hart r v (pc_after hart 4) some stands.debugs)
@@ -165,7 +176,9 @@ stands_becomes : (b : Booting) (h n q : ℕ) (next : Hart) → h < length b.core
 stands_becomes b h n q next inside stands = subst (λ x. Stands (memory_of b.core) x q) (sym (get_or-set_same b.core.harts h next (reset_hart 0 0) inside)) stands
 
 -- the hart stands behind an item of a block
-pub stands_after : (b : Booting) (h p block : ℕ) (item : Item) (insns : List Insn) → h < length b.core.harts → Stands (memory_of b.core) (hart_of b.core h) p → Spelled (length b.core.harts) (memory_of b.core) (hart_of b.core h) block item insns → p + 4 * length insns ≤ length b.core.rom → IsFollowed item → Stands (memory_of (does h (length insns) item b).core) (hart_of (does h (length insns) item b).core h) (p + 4 * length insns)
+pub stands_after : (b : Booting) (h p block : ℕ) (item : Item) (insns : List Insn) → h < length b.core.harts → Stands (memory_of b.core) (hart_of b.core h) p →
+    Spelled (length b.core.harts) (memory_of b.core) (hart_of b.core h) block item insns → p + 4 * length insns ≤ length b.core.rom → IsFollowed item →
+    Stands (memory_of (does h (length insns) item b).core) (hart_of (does h (length insns) item b).core h) (p + 4 * length insns)
 stands_after b h p block _ _ inside stands (small r v imm some r_fits is_signed is) within stays = stands_becomes b h 1 (p + 4) _ inside (stands_put (memory_of b.core) (hart_of b.core h) p 4 r v stands some within)
 stands_after b h p block _ _ inside stands (upper r v imm some r_fits is_signed multiple is) within stays = stands_becomes b h 1 (p + 4) _ inside (stands_put (memory_of b.core) (hart_of b.core h) p 4 r v stands some within)
 stands_after b h p block _ _ inside stands (pair r v high low some r_fits high_fits multiple low_fits is) within stays = stands_becomes b h 2 (p + 8) _ inside (stands_put (memory_of b.core) (hart_of b.core h) p 8 r v stands some within)
@@ -239,7 +252,9 @@ followed_leads (Go r) follows h n b b' moves = absurd follows
 followed_leads Leave follows h n b b' moves = absurd follows
 
 -- items behind each of which the next is executed
-pub items_lead : (b : Booting) (h p block : ℕ) (items : List Spelling) → h < length b.core.harts → Stands (memory_of b.core) (hart_of b.core h) p → AllSpelled h block items b → AllFollowed items → StandAt (code (all_insns items)) p b.core.rom → Leads h (word_count items) b (all_do h items b) × Stands (memory_of (all_do h items b).core) (hart_of (all_do h items b).core h) (p + 4 * word_count items)
+pub items_lead : (b : Booting) (h p block : ℕ) (items : List Spelling) → h < length b.core.harts → Stands (memory_of b.core) (hart_of b.core h) p →
+    AllSpelled h block items b → AllFollowed items → StandAt (code (all_insns items)) p b.core.rom →
+    Leads h (word_count items) b (all_do h items b) × Stands (memory_of (all_do h items b).core) (hart_of (all_do h items b).core h) (p + 4 * word_count items)
 items_lead b h p block [] inside stands spelled stays there = (none_lead h b, subst (λ q. Stands (memory_of b.core) (hart_of b.core h) q) (let e : p ≡ p + 0 = omega arith in e) stands)
 items_lead b h p block (s ∷ rest) inside stands spelled stays there =
     let split : StandAt (code s.insns ++ code (all_insns rest)) p b.core.rom = subst (λ bs. StandAt bs p b.core.rom) (code_append s.insns (all_insns rest)) there in

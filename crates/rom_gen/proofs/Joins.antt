@@ -51,11 +51,15 @@ rom_stays true true any rom e = refl
 rom_stays false true any rom e = refl
 rom_stays was false any rom e = absurd (cc)
 
-acted_is : (b : Booting) (h : ℕ) (put st : Option Put) (x hart : Hart) (ram rom rom' : List ℕ) (y access : Access) → put ≡ st → x ≡ hart → ram ≡ b.core.ram → rom ≡ rom' → y ≡ access → record { core = record { harts = slice_set (after_store put b.core.harts) h x; ram = ram; rom = rom }; board = board_after b.board y; console = b.console ++ sent_by ram b.board y; steps = b.steps + 1 } ≡ acted h st hart rom' access b
+acted_is : (b : Booting) (h : ℕ) (put st : Option Put) (x hart : Hart) (ram rom rom' : List ℕ) (y access : Access) → put ≡ st → x ≡ hart → ram ≡ b.core.ram → rom ≡ rom' →
+    y ≡ access →
+    record { core = record { harts = slice_set (after_store put b.core.harts) h x; ram = ram; rom = rom }; board = board_after b.board y; console = b.console ++ sent_by ram b.board y; steps = b.steps + 1 } ≡ acted h st hart rom' access b
 acted_is b h put st x hart ram rom rom' y access e1 e2 e3 e4 e5 = rw (e1, e2, e3, e4, e5) refl
 
 -- a step of a hart that stays in debug mode
-pub leads_step : (b : Booting) (h : ℕ) (a : HartAnswer) (st : Option Put) (hart : Hart) (access : Access) → h < length b.core.harts → hart_step (board_gives b.board h (hart_of b.core h)) (length b.core.harts) h (hart_of b.core h) (memory_of b.core) ≡ a → Does (memory_of b.core) a st hart access → is_in_debug hart ≡ true → Leads h 1 b (acted h st hart b.core.rom access b)
+pub leads_step : (b : Booting) (h : ℕ) (a : HartAnswer) (st : Option Put) (hart : Hart) (access : Access) → h < length b.core.harts →
+    hart_step (board_gives b.board h (hart_of b.core h)) (length b.core.harts) h (hart_of b.core h) (memory_of b.core) ≡ a → Does (memory_of b.core) a st hart access →
+    is_in_debug hart ≡ true → Leads h 1 b (acted h st hart b.core.rom access b)
 unfolding boot_hart
 leads_step b h a st hart access within is does debugs left =
     let one : 1 + left ≡ suc left = omega arith in
@@ -71,7 +75,9 @@ leads_step b h a st hart access within is does debugs left =
     ∙ ap (boot_hart left h) same
 
 -- the step of a hart that leaves debug mode
-pub frees_step : (b : Booting) (h : ℕ) (a : HartAnswer) (hart : Hart) (access : Access) → h < length b.core.harts → hart_step (board_gives b.board h (hart_of b.core h)) (length b.core.harts) h (hart_of b.core h) (memory_of b.core) ≡ a → Does (memory_of b.core) a None hart access → is_in_debug hart ≡ false → Frees h 1 b (acted h None hart (rom_after (hart_of b.core h) hart (slice_set b.core.harts h hart) b.core.rom) access b)
+pub frees_step : (b : Booting) (h : ℕ) (a : HartAnswer) (hart : Hart) (access : Access) → h < length b.core.harts →
+    hart_step (board_gives b.board h (hart_of b.core h)) (length b.core.harts) h (hart_of b.core h) (memory_of b.core) ≡ a → Does (memory_of b.core) a None hart access →
+    is_in_debug hart ≡ false → Frees h 1 b (acted h None hart (rom_after (hart_of b.core h) hart (slice_set b.core.harts h hart) b.core.rom) access b)
 unfolding boot_hart
 frees_step b h a hart access within is does out left =
     let one : 1 + left ≡ suc left = omega arith in

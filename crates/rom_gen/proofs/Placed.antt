@@ -9,7 +9,8 @@ use Rattle.hart_step.specs.Memory.{rom_base}
 use Rattle.hart_turns.specs.Boot.{Booting}
 use Rattle.rom_gen.specs.ItemEffects.{AllSpelled, all_do, becomes, hart_after}
 use Rattle.rom_gen.specs.Items.{Spelling, StandAt, word_count}
-use Rattle.rom_gen.specs.Wants.{Want, Reg, Control, AllGood, AllInner, AllKeep, IsLayout, KeepsBase, Leaves, all_csrs, all_values, hart_all, placed, pool}
+use Rattle.rom_gen.specs.Wants.{Want, Reg, Control, all_values, hart_all, placed, pool}
+use Rattle.rom_gen.proofs.Layouts.{AllGood, AllInner, AllKeep, IsLayout, KeepsBase, Leaves, all_csrs}
 use Rattle.rom_gen.proofs.Blocks.{inner_block}
 use Rattle.rom_gen.proofs.ItemSteps.{stand_first, stand_second}
 
@@ -48,7 +49,9 @@ all_inner layout off [] = tt
 all_inner {spell = spell} {values = values} layout off (w ∷ ws) = inner_append (spell off w) (placed spell values (off + 8 * length (values w)) ws) (layout.inner off w) (all_inner layout (off + 8 * length (values w)) ws)
 
 -- a list of wants is spelled where its pool stands
-pub placed_spelled : {spell : ℕ → Want → List Spelling} {values : Want → List ℕ} → IsLayout spell values → (h block off : ℕ) (b : Booting) (ws : List Want) → AllGood ws → AllKeep ws → h < length b.core.harts → length (hart_of b.core h).x ≡ 32 → register (hart_of b.core h) 1 ≡ rom_base + block → block % 8 ≡ 0 → off % 8 ≡ 0 → off + 8 * length (all_values values ws) ≤ 2048 → StandAt (pool (all_values values ws)) (block + off) b.core.rom → AllSpelled h block (placed spell values off ws) b
+pub placed_spelled : {spell : ℕ → Want → List Spelling} {values : Want → List ℕ} → IsLayout spell values → (h block off : ℕ) (b : Booting) (ws : List Want) → AllGood ws →
+    AllKeep ws → h < length b.core.harts → length (hart_of b.core h).x ≡ 32 → register (hart_of b.core h) 1 ≡ rom_base + block → block % 8 ≡ 0 → off % 8 ≡ 0 →
+    off + 8 * length (all_values values ws) ≤ 2048 → StandAt (pool (all_values values ws)) (block + off) b.core.rom → AllSpelled h block (placed spell values off ws) b
 placed_spelled layout h block off b [] good keep inside count at aligned even room there = tt
 placed_spelled {spell = spell} {values = values} layout h block off b (w ∷ ws) good keep inside count at aligned even room there =
     let us : List ℕ = values w in
@@ -82,7 +85,9 @@ placed_csrs {spell = spell} {values = values} layout off (w ∷ ws) hart good co
     ∙ ap (all_csrs ws) leaves.csrs
 
 -- the block's address stays in x1, and x has 32 registers
-pub placed_base : {spell : ℕ → Want → List Spelling} {values : Want → List ℕ} → IsLayout spell values → (off : ℕ) (ws : List Want) (hart : Hart) → AllGood ws → AllKeep ws → length hart.x ≡ 32 → (register (hart_all (placed spell values off ws) hart) 1 ≡ register hart 1) × (length (hart_all (placed spell values off ws) hart).x ≡ 32) × ((hart_all (placed spell values off ws) hart).reservation ≡ hart.reservation)
+pub placed_base : {spell : ℕ → Want → List Spelling} {values : Want → List ℕ} → IsLayout spell values → (off : ℕ) (ws : List Want) (hart : Hart) → AllGood ws →
+    AllKeep ws → length hart.x ≡ 32 →
+    (register (hart_all (placed spell values off ws) hart) 1 ≡ register hart 1) × (length (hart_all (placed spell values off ws) hart).x ≡ 32) × ((hart_all (placed spell values off ws) hart).reservation ≡ hart.reservation)
 placed_base layout off [] hart good keep count = (refl, count, refl)
 placed_base {spell = spell} {values = values} layout off (w ∷ ws) hart good keep count =
     let after : Hart = hart_all (spell off w) hart in

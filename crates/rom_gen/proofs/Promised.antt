@@ -7,7 +7,7 @@ use Rattle.hart_step.specs.Fit.{IsWellFormed}
 use Rattle.hart_step.specs.Memory.{most_rom, rom_base}
 use Rattle.hart_turns.specs.Boot.{Booting, most_steps}
 use Rattle.rom_gen.specs.Items.{StandAt}
-use Rattle.rom_gen.specs.Wants.{all_csrs}
+use Rattle.rom_gen.proofs.Layouts.{all_csrs}
 use Rattle.rom_gen.specs.HartWants.{controls}
 use Rattle.rom_gen.specs.Rom.{device_bytes, device_items, hart_bytes, hart_items, pool_place, rom_bytes}
 use Rattle.rom_gen.specs.Executed.{IsPlace, RestoresDevices, RestoresHart}

@@ -28,6 +28,7 @@ legal_control old Mode.S = refl
 legal_control old Mode.M = refl
 
 -- and so do the two that dret reads
-pub debug_back : (target : Registers) (mode : Mode) (pc : ℕ) → ((old : ℕ) → legal csr_dpc old pc ≡ pc) → written csr_dpc pc (written csr_dcsr (dcsr_fixed + level mode) (record target { debug = Some reset_debug_registers })) ≡ record target { debug = Some (record reset_debug_registers { dcsr = dcsr_fixed + level mode; dpc = pc }) }
+pub debug_back : (target : Registers) (mode : Mode) (pc : ℕ) → ((old : ℕ) → legal csr_dpc old pc ≡ pc) →
+    written csr_dpc pc (written csr_dcsr (dcsr_fixed + level mode) (record target { debug = Some reset_debug_registers })) ≡ record target { debug = Some (record reset_debug_registers { dcsr = dcsr_fixed + level mode; dpc = pc }) }
 unfolding written with_kept with_debug_kept kept_value
 debug_back target mode pc keeps = rw (legal_control, keeps) refl

@@ -100,7 +100,8 @@ arrives board core h fit kept within =
     }
 
 -- a hart that is freed after the block of the devices, where no hart had a reservation
-freed_led : (h n m : ℕ) (harts : List Hart) (hart : Hart) (board : BoardState) (b : Booting) → h < length b.core.harts → All (λ (x : Hart). x.reservation ≡ None) b.core.harts → Stay h b.core.harts harts → freed h m hart board (moved n harts board b) ≡ freed h (n + m) hart board b
+freed_led : (h n m : ℕ) (harts : List Hart) (hart : Hart) (board : BoardState) (b : Booting) → h < length b.core.harts →
+    All (λ (x : Hart). x.reservation ≡ None) b.core.harts → Stay h b.core.harts harts → freed h m hart board (moved n harts board b) ≡ freed h (n + m) hart board b
 freed_led h n m harts hart board b inside none stay =
     ap (λ hs. record { core = record { harts = hs; ram = b.core.ram; rom = rom_while hs b.core.rom }; board = board; console = b.console; steps = b.steps + n + m }) (stay_free h b.core.harts harts hart inside none stay)
     ∙ ap (λ k. record { core = record { harts = slice_set b.core.harts h hart; ram = b.core.ram; rom = rom_while (slice_set b.core.harts h hart) b.core.rom }; board = board; console = b.console; steps = k }) (add_assoc b.steps n m)

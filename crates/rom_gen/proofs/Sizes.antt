@@ -32,7 +32,8 @@ put_short off r v true c = omega arith
 put_short off r v false true = omega arith
 put_short off r v false false = omega arith
 
-pub put_fixed : (off off' r v : ℕ) (b c : Bool) → length (cond b (Insn.Addi r 0 (low_part v) ∷ []) (cond c (Insn.Lui r (high_part v) ∷ Insn.Addiw r r (low_part v) ∷ []) (Insn.Ld r 1 (pos off) ∷ []))) ≡ length (cond b (Insn.Addi r 0 (low_part v) ∷ []) (cond c (Insn.Lui r (high_part v) ∷ Insn.Addiw r r (low_part v) ∷ []) (Insn.Ld r 1 (pos off') ∷ [])))
+pub put_fixed : (off off' r v : ℕ) (b c : Bool) →
+    length (cond b (Insn.Addi r 0 (low_part v) ∷ []) (cond c (Insn.Lui r (high_part v) ∷ Insn.Addiw r r (low_part v) ∷ []) (Insn.Ld r 1 (pos off) ∷ []))) ≡ length (cond b (Insn.Addi r 0 (low_part v) ∷ []) (cond c (Insn.Lui r (high_part v) ∷ Insn.Addiw r r (low_part v) ∷ []) (Insn.Ld r 1 (pos off') ∷ [])))
 put_fixed off off' r v true c = refl
 put_fixed off off' r v false true = refl
 put_fixed off off' r v false false = refl

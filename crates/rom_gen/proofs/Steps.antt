@@ -29,7 +29,9 @@ use Rattle.rom_gen.proofs.WordForms.{IsWord, word_r_fits, modulo_12}
 use Rattle.rom_gen.specs.Items.{is_writable, Stands}
 
 -- the step at an instruction's word is the instruction's effect
-pub at_word : (given : Given) (n h : ℕ) (hart : Hart) (memory : MemoryState) (p : ℕ) (rest : List ℕ) (insn : Insn) → Stands memory hart p → given.interrupt ≡ None → IsInRange insn → IsWord (encoded insn) → drop p memory.rom ≡ little_bytes 4 (encoded insn) ++ rest → hart_step given n h hart memory ≡ shows h hart (encoded insn) (effect given n 4 (encoded insn) insn hart memory)
+pub at_word : (given : Given) (n h : ℕ) (hart : Hart) (memory : MemoryState) (p : ℕ) (rest : List ℕ) (insn : Insn) → Stands memory hart p → given.interrupt ≡ None →
+    IsInRange insn → IsWord (encoded insn) → drop p memory.rom ≡ little_bytes 4 (encoded insn) ++ rest →
+    hart_step given n h hart memory ≡ shows h hart (encoded insn) (effect given n 4 (encoded insn) insn hart memory)
 unfolding hart_step
 at_word given n h hart memory p rest insn stands none range word there =
     ap (from_interrupt given n h hart memory) none
@@ -37,7 +39,8 @@ at_word given n h hart memory p rest insn stands none range word there =
     ∙ ap (λ i. shows h hart (encoded insn) (from_decoded given n 4 (encoded insn) hart memory i)) (encoded_is_decoded_lem insn range)
 
 -- what a step does whose instruction commits in debug mode
-pub does_effect : (h : ℕ) (hart next : Hart) (memory : MemoryState) (word : ℕ) (e : Effect) (done : Done) (access : Access) → is_in_debug hart ≡ true → e.shown ≡ Ok done → e.hart ≡ next → e.memory ≡ memory → e.access ≡ access → Does memory (shows h hart word e) done.st next access
+pub does_effect : (h : ℕ) (hart next : Hart) (memory : MemoryState) (word : ℕ) (e : Effect) (done : Done) (access : Access) → is_in_debug hart ≡ true →
+    e.shown ≡ Ok done → e.hart ≡ next → e.memory ≡ memory → e.access ≡ access → Does memory (shows h hart word e) done.st next access
 does_effect h hart next memory word e done access debugs shown hart_is memory_is access_is =
     let q : shows h hart word e ≡ commits h hart word e (Ok done) = ap (commits h hart word e) shown in
     record {
@@ -69,7 +72,9 @@ pub small_word : (r : ℕ) (imm : ℤ) → r < 32 → IsWord (encoded (Insn.Addi
 unfolding encoded
 small_word r imm r_fits = word_r_fits 0x13 r 0 (modulo 12 imm) (omega arith) refl r_fits (omega arith) (modulo_12 imm)
 
-pub small_step : (given : Given) (n h : ℕ) (hart : Hart) (memory : MemoryState) (p r v : ℕ) (imm : ℤ) (rest : List ℕ) → Stands memory hart p → given.interrupt ≡ None → r < 32 → IsSigned 12 imm → modulo 64 imm ≡ v → drop p memory.rom ≡ little_bytes 4 (encoded (Insn.Addi r 0 imm)) ++ rest → Does memory (hart_step given n h hart memory) None (with_write hart r v (pc_after hart 4)) Untouched
+pub small_step : (given : Given) (n h : ℕ) (hart : Hart) (memory : MemoryState) (p r v : ℕ) (imm : ℤ) (rest : List ℕ) → Stands memory hart p → given.interrupt ≡ None →
+    r < 32 → IsSigned 12 imm → modulo 64 imm ≡ v → drop p memory.rom ≡ little_bytes 4 (encoded (Insn.Addi r 0 imm)) ++ rest →
+    Does memory (hart_step given n h hart memory) None (with_write hart r v (pc_after hart 4)) Untouched
 small_step given n h hart memory p r v imm rest stands none r_fits signed is there =
     let word : ℕ = encoded (Insn.Addi r 0 imm) in
     subst (λ a. Does memory a None (with_write hart r v (pc_after hart 4)) Untouched)
@@ -103,7 +108,8 @@ may_write r mode num debugs fits writable =
     let low : nat_le (num / 256 % 4) 3 ≡ true = le-leb _ _ (omega arith) in
     rw (both.0, debugs, low, both.1) (open_last (not (is_debug_number num)) (num == csr_satp) (not (is_user_counter num)) (not (bit_and r.mstatus mstatus_tvm == 0)))
 
-pub csr_effect : (given : Given) (n : ℕ) (hart : Hart) (memory : MemoryState) (word num r : ℕ) → may_access hart.csrs hart.mode num true ≡ true → effect given n 4 word (Insn.Csrrw 0 r num) hart memory ≡ record { hart = record hart { csrs = written num (register hart r) hart.csrs; pc = pc_after hart 4 }; memory = memory; shown = Ok (record { rd = None; st = None; dv = None; vl = None; wrote = Some num }); access = Untouched }
+pub csr_effect : (given : Given) (n : ℕ) (hart : Hart) (memory : MemoryState) (word num r : ℕ) → may_access hart.csrs hart.mode num true ≡ true →
+    effect given n 4 word (Insn.Csrrw 0 r num) hart memory ≡ record { hart = record hart { csrs = written num (register hart r) hart.csrs; pc = pc_after hart 4 }; memory = memory; shown = Ok (record { rd = None; st = None; dv = None; vl = None; wrote = Some num }); access = Untouched }
 unfolding effect
 csr_effect given n hart memory word num r may = ap (λ b. with_memory (cond b (record { hart = record hart { csrs = written num (register hart r) hart.csrs; pc = pc_after hart 4 }; shown = Ok (record { rd = None; st = None; dv = None; vl = None; wrote = Some num }) }) (record { hart = hart; shown = Err (exception 2 word) })) memory) may
 
@@ -114,7 +120,9 @@ pub csr_word : (num r : ℕ) → r < 32 → num < 4096 → IsWord (encoded (Insn
 unfolding encoded
 csr_word num r r_fits fits = word_r_fits 0x1073 0 r num (omega arith) refl (omega arith) r_fits fits
 
-pub csr_step : (given : Given) (n h : ℕ) (hart : Hart) (memory : MemoryState) (p num r : ℕ) (rest : List ℕ) → Stands memory hart p → given.interrupt ≡ None → r < 32 → num < 4096 → is_writable num ≡ true → drop p memory.rom ≡ little_bytes 4 (encoded (Insn.Csrrw 0 r num)) ++ rest → Does memory (hart_step given n h hart memory) None (record hart { csrs = written num (register hart r) hart.csrs; pc = pc_after hart 4 }) Untouched
+pub csr_step : (given : Given) (n h : ℕ) (hart : Hart) (memory : MemoryState) (p num r : ℕ) (rest : List ℕ) → Stands memory hart p → given.interrupt ≡ None → r < 32 →
+    num < 4096 → is_writable num ≡ true → drop p memory.rom ≡ little_bytes 4 (encoded (Insn.Csrrw 0 r num)) ++ rest →
+    Does memory (hart_step given n h hart memory) None (record hart { csrs = written num (register hart r) hart.csrs; pc = pc_after hart 4 }) Untouched
 csr_step given n h hart memory p num r rest stands none r_fits fits writable there =
     let word : ℕ = encoded (Insn.Csrrw 0 r num) in
     let next : Hart = record hart { csrs = written num (register hart r) hart.csrs; pc = pc_after hart 4 } in
@@ -126,11 +134,14 @@ csr_step given n h hart memory p num r rest stands none r_fits fits writable the
 
 -- ---- csrrwi to no register
 
-pub csr_imm_effect : (given : Given) (n : ℕ) (hart : Hart) (memory : MemoryState) (word num u : ℕ) → may_access hart.csrs hart.mode num true ≡ true → effect given n 4 word (Insn.Csrrwi 0 u num) hart memory ≡ record { hart = record hart { csrs = written num u hart.csrs; pc = pc_after hart 4 }; memory = memory; shown = Ok (record { rd = None; st = None; dv = None; vl = None; wrote = Some num }); access = Untouched }
+pub csr_imm_effect : (given : Given) (n : ℕ) (hart : Hart) (memory : MemoryState) (word num u : ℕ) → may_access hart.csrs hart.mode num true ≡ true →
+    effect given n 4 word (Insn.Csrrwi 0 u num) hart memory ≡ record { hart = record hart { csrs = written num u hart.csrs; pc = pc_after hart 4 }; memory = memory; shown = Ok (record { rd = None; st = None; dv = None; vl = None; wrote = Some num }); access = Untouched }
 unfolding effect
 csr_imm_effect given n hart memory word num u may = ap (λ b. with_memory (cond b (record { hart = record hart { csrs = written num u hart.csrs; pc = pc_after hart 4 }; shown = Ok (record { rd = None; st = None; dv = None; vl = None; wrote = Some num }) }) (record { hart = hart; shown = Err (exception 2 word) })) memory) may
 
-pub csr_imm_step : (given : Given) (n h : ℕ) (hart : Hart) (memory : MemoryState) (p num u : ℕ) (rest : List ℕ) → Stands memory hart p → given.interrupt ≡ None → u < 32 → num < 4096 → is_writable num ≡ true → drop p memory.rom ≡ little_bytes 4 (encoded (Insn.Csrrwi 0 u num)) ++ rest → Does memory (hart_step given n h hart memory) None (record hart { csrs = written num u hart.csrs; pc = pc_after hart 4 }) Untouched
+pub csr_imm_step : (given : Given) (n h : ℕ) (hart : Hart) (memory : MemoryState) (p num u : ℕ) (rest : List ℕ) → Stands memory hart p → given.interrupt ≡ None → u < 32 →
+    num < 4096 → is_writable num ≡ true → drop p memory.rom ≡ little_bytes 4 (encoded (Insn.Csrrwi 0 u num)) ++ rest →
+    Does memory (hart_step given n h hart memory) None (record hart { csrs = written num u hart.csrs; pc = pc_after hart 4 }) Untouched
 unfolding encoded
 csr_imm_step given n h hart memory p num u rest stands none u_fits fits writable there =
     let word : ℕ = encoded (Insn.Csrrwi 0 u num) in

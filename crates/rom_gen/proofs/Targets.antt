@@ -16,7 +16,8 @@ use Rattle.rom_gen.specs.Items.{is_writable}
 use Rattle.hart_step.specs.declared.hart.Hart.{Hart}
 use Rattle.hart_step.specs.Fit.{IsWellFormed}
 use Rattle.rom_gen.specs.HartWants.{controls, numbered, registers, slot_wants}
-use Rattle.rom_gen.specs.Wants.{AllGood, AllKeep, Want, Reg, Control}
+use Rattle.rom_gen.specs.Wants.{Want, Reg, Control}
+use Rattle.rom_gen.proofs.Layouts.{AllGood, AllKeep}
 use Rattle.rom_gen.proofs.HartBlock.{IsTarget}
 use Rattle.rom_gen.proofs.HartWants.{AllControl}
 

@@ -17,7 +17,8 @@ use Rattle.hart_step.specs.Memory.{MemoryState, rom_base}
 use Rattle.hart_turns.specs.Boot.{Booting}
 use Rattle.rom_gen.specs.ItemEffects.{AllSpelled}
 use Rattle.rom_gen.specs.Items.{Csr, CsrImm, Put, Spelled, Spelling, StandAt, csr, csr_imm, pooled, small, pair}
-use Rattle.rom_gen.specs.Wants.{AllInner, Want, Reg, Control, IsGood, IsLayout, Leaves, hart_all, high_part, is_short, is_small, low_part, pool, put_insns, want_items, want_values, put_values}
+use Rattle.rom_gen.specs.Wants.{Want, Reg, Control, hart_all, high_part, is_short, is_small, low_part, pool, put_insns, want_items, want_values, put_values}
+use Rattle.rom_gen.proofs.Layouts.{AllInner, IsGood, IsLayout, Leaves}
 use Rattle.rom_gen.proofs.Standing.{put_is}
 use Rattle.rom_gen.proofs.ItemSteps.{stand_first}
 
@@ -94,7 +95,10 @@ pair_value v fits e = ap (λ x. modulo 64 (signed 32 x)) (sum_is v) ∙ word_is 
 -- ---- the spellings
 
 -- one of the three spellings of a value
-pub put_spelled : (n : ℕ) (memory : MemoryState) (hart : Hart) (block off r v : ℕ) (b c : Bool) → is_small v ≡ b → is_short v ≡ c → 0 < r → r < 32 → v < 2 ^ 64 → register hart 1 ≡ rom_base + block → block % 8 ≡ 0 → off % 8 ≡ 0 → off + 8 * length (cond b [] (cond c [] (v ∷ []))) ≤ 2048 → StandAt (pool (cond b [] (cond c [] (v ∷ [])))) (block + off) memory.rom → Spelled n memory hart block (Put r v) (cond b (Insn.Addi r 0 (low_part v) ∷ []) (cond c (Insn.Lui r (high_part v) ∷ Insn.Addiw r r (low_part v) ∷ []) (Insn.Ld r 1 (pos off) ∷ [])))
+pub put_spelled : (n : ℕ) (memory : MemoryState) (hart : Hart) (block off r v : ℕ) (b c : Bool) → is_small v ≡ b → is_short v ≡ c → 0 < r → r < 32 → v < 2 ^ 64 →
+    register hart 1 ≡ rom_base + block → block % 8 ≡ 0 → off % 8 ≡ 0 → off + 8 * length (cond b [] (cond c [] (v ∷ []))) ≤ 2048 →
+    StandAt (pool (cond b [] (cond c [] (v ∷ [])))) (block + off) memory.rom →
+    Spelled n memory hart block (Put r v) (cond b (Insn.Addi r 0 (low_part v) ∷ []) (cond c (Insn.Lui r (high_part v) ∷ Insn.Addiw r r (low_part v) ∷ []) (Insn.Ld r 1 (pos off) ∷ [])))
 put_spelled n memory hart block off r v true c is_a is_b some r_fits fits at aligned even room there = small r v (low_part v) some r_fits (low_fits v) (small_is v fits is_a)
 put_spelled n memory hart block off r v false true is_a is_b some r_fits fits at aligned even room there = pair r v (high_part v) (low_part v) some r_fits (high_fits v) (high_multiple v) (low_fits v) (pair_value v fits is_b)
 put_spelled n memory hart block off r v false false is_a is_b some r_fits fits at aligned even room there = pooled r v off some r_fits fits (omega arith) (omega arith) at (stand_first (little_bytes 8 v) [] (block + off) memory.rom there)
@@ -105,11 +109,15 @@ long_control off number v = record { item = Put 2 v; insns = put_insns off 2 v }
 abbrev control_spell : Bool → ℕ → ℕ → ℕ → List Spelling
 control_spell d off number v = cond d (record { item = CsrImm number v; insns = Insn.Csrrwi 0 v number ∷ [] } ∷ []) (long_control off number v)
 
-control_spelled : (h block off : ℕ) (b : Booting) (number v : ℕ) (d : Bool) → nat_le v 31 ≡ d → IsGood (Control number v) → register (hart_of b.core h) 1 ≡ rom_base + block → block % 8 ≡ 0 → off % 8 ≡ 0 → off + 8 * length (cond d [] (put_values v)) ≤ 2048 → StandAt (pool (cond d [] (put_values v))) (block + off) b.core.rom → AllSpelled h block (control_spell d off number v) b
+control_spelled : (h block off : ℕ) (b : Booting) (number v : ℕ) (d : Bool) → nat_le v 31 ≡ d → IsGood (Control number v) →
+    register (hart_of b.core h) 1 ≡ rom_base + block → block % 8 ≡ 0 → off % 8 ≡ 0 → off + 8 * length (cond d [] (put_values v)) ≤ 2048 →
+    StandAt (pool (cond d [] (put_values v))) (block + off) b.core.rom → AllSpelled h block (control_spell d off number v) b
 control_spelled h block off b number v true is good at aligned even room there = (csr_imm number v (let k = leb-true v 31 is in omega arith) good.0 good.1, tt)
 control_spelled h block off b number v false is good at aligned even room there = (put_spelled _ _ _ block off 2 v (is_small v) (is_short v) refl refl (omega arith) (omega arith) good.2 at aligned even room there, (csr number 2 (omega arith) good.0 good.1, tt))
 
-want_spelled : (h block off : ℕ) (b : Booting) (w : Want) → IsGood w → h < length b.core.harts → length (hart_of b.core h).x ≡ 32 → register (hart_of b.core h) 1 ≡ rom_base + block → block % 8 ≡ 0 → off % 8 ≡ 0 → off + 8 * length (want_values w) ≤ 2048 → StandAt (pool (want_values w)) (block + off) b.core.rom → AllSpelled h block (want_items off w) b
+want_spelled : (h block off : ℕ) (b : Booting) (w : Want) → IsGood w → h < length b.core.harts → length (hart_of b.core h).x ≡ 32 →
+    register (hart_of b.core h) 1 ≡ rom_base + block → block % 8 ≡ 0 → off % 8 ≡ 0 → off + 8 * length (want_values w) ≤ 2048 →
+    StandAt (pool (want_values w)) (block + off) b.core.rom → AllSpelled h block (want_items off w) b
 want_spelled h block off b (Reg r v) good inside count at aligned even room there = (put_spelled _ _ _ block off r v (is_small v) (is_short v) refl refl good.0 good.1 good.2 at aligned even room there, tt)
 want_spelled h block off b (Control number v) good inside count at aligned even room there = control_spelled h block off b number v (nat_le v 31) refl good at aligned even room there
 

@@ -81,7 +81,9 @@ unfolding slot_wants number_wants
 slots_by_number r [] = refl
 slots_by_number r (s ∷ slots) = ap (λ ws. Control s.number (kept_value s.number r) ∷ ws) (slots_by_number r slots)
 
-pub slot_written : (start now next : Writer) (r : Registers) (numbers : List ℕ) (i : ℕ) → i < length numbers → Wrote start now (number_wants r (take i numbers)) → Adds now next (all_insns (want_items (offset_of now) (Control (slice_index numbers i) (kept_value (slice_index numbers i) r)))) (want_values (Control (slice_index numbers i) (kept_value (slice_index numbers i) r))) → Wrote start next (number_wants r (take (i + 1) numbers))
+pub slot_written : (start now next : Writer) (r : Registers) (numbers : List ℕ) (i : ℕ) → i < length numbers → Wrote start now (number_wants r (take i numbers)) →
+    Adds now next (all_insns (want_items (offset_of now) (Control (slice_index numbers i) (kept_value (slice_index numbers i) r)))) (want_values (Control (slice_index numbers i) (kept_value (slice_index numbers i) r))) →
+    Wrote start next (number_wants r (take (i + 1) numbers))
 slot_written start now next r numbers i within wrote adds =
     let w : Want = Control (slice_index numbers i) (kept_value (slice_index numbers i) r) in
     subst (λ ws. Wrote start next ws) (sym (ap (number_wants r) (take_more numbers i 0 within) ∙ numbers_more r (take i numbers) (slice_index numbers i)))
@@ -158,7 +160,9 @@ pub offset_begun : (a : Writer) (place : ℕ) → a.pool.items ≡ [] → a.plac
 offset_begun a place none is = omega (arith, ap length none, is)
 
 -- a block's bytes
-pub block_written : (items : ℕ → List Spelling) (last : Insn) (values : List ℕ) (a b : Writer) (n : ℕ) → ((k : ℕ) → word_count (items k) ≡ word_count (items 0)) → a.code.items ≡ [] → a.pool.items ≡ [] → a.place ≡ pool_place items → n ≡ encoded last → Adds a b (all_insns (items (offset_of a))) values → (b.code.items ++ little_bytes 4 n) ++ (code (padding (length b.code.items / 4 + 1)) ++ b.pool.items) ≡ block_bytes items last values
+pub block_written : (items : ℕ → List Spelling) (last : Insn) (values : List ℕ) (a b : Writer) (n : ℕ) → ((k : ℕ) → word_count (items k) ≡ word_count (items 0)) →
+    a.code.items ≡ [] → a.pool.items ≡ [] → a.place ≡ pool_place items → n ≡ encoded last → Adds a b (all_insns (items (offset_of a))) values →
+    (b.code.items ++ little_bytes 4 n) ++ (code (padding (length b.code.items / 4 + 1)) ++ b.pool.items) ≡ block_bytes items last values
 block_written items last values a b n fixed no_code no_pool place is adds =
     let k : ℕ = pool_place items in
     let at : offset_of a ≡ k = offset_begun a k no_pool place in
@@ -171,7 +175,9 @@ block_written items last values a b n fixed no_code no_pool place is adds =
     ∙ ap (λ m. (code (all_insns (items k)) ++ code (last ∷ [])) ++ (code (padding m) ++ b.pool.items)) words
     ∙ ap (λ x. (code (all_insns (items k)) ++ code (last ∷ [])) ++ (code (padding (block_words items)) ++ x)) pools
 
-pub hart_bytes_written : (target : Hart) (a b : Writer) (n : ℕ) → a.code.items ≡ [] → a.pool.items ≡ [] → a.place ≡ pool_place (hart_items target) → n ≡ encoded Insn.Dret → Adds a b (all_insns (hart_items target (offset_of a))) (hart_values target) → (b.code.items ++ little_bytes 4 n) ++ (code (padding (length b.code.items / 4 + 1)) ++ b.pool.items) ≡ hart_bytes target
+pub hart_bytes_written : (target : Hart) (a b : Writer) (n : ℕ) → a.code.items ≡ [] → a.pool.items ≡ [] → a.place ≡ pool_place (hart_items target) →
+    n ≡ encoded Insn.Dret → Adds a b (all_insns (hart_items target (offset_of a))) (hart_values target) →
+    (b.code.items ++ little_bytes 4 n) ++ (code (padding (length b.code.items / 4 + 1)) ++ b.pool.items) ≡ hart_bytes target
 unfolding hart_bytes
 hart_bytes_written target a b n no_code no_pool place is adds = block_written (hart_items target) Insn.Dret (hart_values target) a b n (hart_fixed target) no_code no_pool place is adds
 
