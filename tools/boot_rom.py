@@ -1,7 +1,9 @@
 #!/usr/bin/env python3
 """Boot ROMs for the tests of crates/rom_gen, made from the description of a machine by the layout's own words, with the words of
-an assembler (llvm-mc). It shares nothing with the crates. Every ROM is also executed here, by an interpreter of the few instructions that it
-needs, and has to lead to the machine that it was made from. Run by hand: `boot_rom.py` prints the tables of src/tests_tables.rt."""
+an assembler (llvm-mc). It shares nothing with the crates. Each ROM is also executed here, by an interpreter of the few instructions that
+ROMs need, and has to lead to the machine that it was made from. Run by hand: `boot_rom.py words` prints src/tests_words.rt and `boot_rom.py
+numbers` prints src/tests_numbers.rt."""
+import sys
 import textwrap
 from instruction_rows import ROWS, decode
 from reference_machine import BASE, M64, Hart, Machine, signed
@@ -522,7 +524,6 @@ def print_programs():
     print_words("RESERVES", list(zip(assemble(RESERVES), RESERVES)), doc + measures(*made(after_reservations())))
     doc = "Hart 0 fills the queue under loop, claims both sources and leaves loop alone set. The ROM after 200 steps of eight harts has "
     print_words("FILLS", list(zip(assemble(FILLS), FILLS)), doc + measures(*made(after_filling())))
-    print_words("LAYS", list(zip(lays_code()[1], lays_code()[0])), "The code of a ROM that lays numbers: those of the devices' rows, and those of each hart.")
 
 
 def print_state(name, harts, ones, values, rows, doc):
@@ -539,8 +540,13 @@ def print_state(name, harts, ones, values, rows, doc):
         print_table(name + "_ROWS", "(u64, u64)", [("(%s, %s)" % (number(at), number(v)), "") for at, v in rows], doc)
 
 
-if __name__ == "__main__":
-    print("//! Programs, ROMs and numbers for the tests, as tools/boot_rom.py prints them.")
-    print_programs()
+def print_states():
+    print_words("LAYS", list(zip(lays_code()[1], lays_code()[0])), "The code of a ROM that lays numbers: those of the devices' rows, and those of each hart.")
     for name, harts, ones, (values, rows), doc in STATES:
         print_state(name, harts, ones, values, rows, doc)
+
+
+if __name__ == "__main__":
+    kind = sys.argv[1]
+    print("//! What the tests compare with or begin with, as tools/boot_rom.py prints it.")
+    {"words": print_programs, "numbers": print_states}[kind]()

@@ -9,6 +9,18 @@ mod entry;
 mod hart_block;
 mod laws;
 mod rom;
+#[cfg(test)]
+mod tests;
+#[cfg(test)]
+mod tests_first;
+#[cfg(test)]
+mod tests_laid;
+#[cfg(test)]
+mod tests_numbers;
+#[cfg(test)]
+mod tests_support;
+#[cfg(test)]
+mod tests_words;
 mod words;
 mod writer;
 
