@@ -448,11 +448,15 @@ def in_loop():
     return {h: (CLEAN, {}) for h in range(8)}, rows
 
 
-def borders(shift, mode, status):
-    """One hart with the borders in its registers."""
+# registers that keep all bits
+KEEP = [0x340, 0x342, 0x343, 0x140, 0x142, 0x143, 0xB00, 0xB02]
+
+
+def borders(shift, mode, status, satp, kept):
+    """One hart with the borders in its registers, of which these are in those that keep all bits."""
     around = lambda k: BORDERS[(k + shift) % len(BORDERS)]
     controls = {n: around(i) for i, n in enumerate(CONTROLS)}
-    controls.update({0x300: status, 0x180: 2**63 | 0x80008 if shift else 2047, 0x7B0: mode})
+    controls.update({0x300: status, 0x180: satp, 0x7B0: mode, **dict(zip(KEEP, kept))})
     return {0: (controls, {i: around(i - 1) for i in range(1, 32)})}, []
 
 
@@ -473,8 +477,9 @@ def different(harts):
 # name, harts, what fills the places of the registers, what is laid, and the words for it
 STATES = [
     ("IN_LOOP", 8, None, in_loop(), "Harts at reset, with both sources served, a full queue, and loop alone set."),
-    ("BORDERS", 1, None, borders(0, 1, 0x21888), "A hart in supervisor mode with MPRV set."),
-    ("SHIFTED", 1, None, borders(11, 0, 0x60000), "A hart in user mode, with MPRV and SUM set, MPP for user mode, and satp on."),
+    ("BORDERS", 1, None, borders(0, 1, 0x21888, 2047, [31, 2047, -1, -2049, 2**31 - 1, -(2**31), 0x7FFFF800, 2**63]), "A hart in supervisor mode with MPRV set."),
+    ("SHIFTED", 1, None, borders(11, 0, 0x60000, 2**63 | 0x80008, [32, 2048, -2048, 0x12345800, 2**31, -(2**31) - 1, 0x7FFFF7FF, 2**32]),
+     "A hart in user mode, with MPRV and SUM set, MPP for user mode, and satp on."),
     ("LARGEST", 8, M64 - 1, largest(8), "Eight harts and devices, every register of which is written with all bits set."),
     ("TWO", 2, 0, different(2), "Two harts and devices that differ, in all sizes of numbers."),
     ("EIGHT", 8, 0, different(8), "Eight harts and devices that differ."),

@@ -64,9 +64,14 @@ fn fill(rom: &mut Vec<u8>, harts: u8, ones: u64) {
     }
 }
 
+fn put_number(rom: &mut Vec<u8>, number: (u32, u64)) {
+    let (at, value) = number;
+    put(rom, at as usize, value);
+}
+
 fn put_numbers(rom: &mut Vec<u8>, numbers: &[(u32, u64)]) {
-    for &(at, value) in numbers {
-        put(rom, at as usize, value);
+    for &number in numbers {
+        put_number(rom, number);
     }
 }
 
@@ -125,12 +130,12 @@ fn numbers_at_the_borders(rt: HostRuntime) -> Result<(), Fail> {
         numbers: &BORDERS,
         rows: &[],
         steps: 89,
-        measures: (672, 0x9f59_5130_30fa_fd2b, 139),
+        measures: (656, 0x81bc_cdbf_0072_b6c7, 137),
     };
     lays_and_saves(&rt, rt.alloc(), laid)?;
     let shifted = Laid {
         numbers: &SHIFTED,
-        measures: (680, 0x8684_7ab3_fcef_2443, 135),
+        measures: (688, 0x2d2e_d154_6226_c011, 137),
         ..laid
     };
     lays_and_saves(&rt, rt.alloc(), shifted)?;

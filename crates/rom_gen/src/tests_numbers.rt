@@ -165,8 +165,8 @@ pub(crate) static IN_LOOP_ROWS: [(u64, u64); 26] = [
     (0x1_1000_0008, 4),
 ];
 
-/// A hart in supervisor mode with MPRV set. Laid in 89 steps. The ROM has 672 bytes, checksum
-/// 0x9f59_5130_30fa_fd2b; its boot makes 139 steps.
+/// A hart in supervisor mode with MPRV set. Laid in 89 steps. The ROM has 656 bytes, checksum
+/// 0x81bc_cdbf_0072_b6c7; its boot makes 137 steps.
 pub(crate) static BORDERS: [(u32, u64); 55] = [
     (0x200, 0x2_1888),
     (0x208, 31),
@@ -175,21 +175,21 @@ pub(crate) static BORDERS: [(u32, u64); 55] = [
     (0x220, 0x800),
     (0x228, 0xffff_ffff_ffff_ffff),
     (0x230, 0xffff_ffff_ffff_f801),
-    (0x238, 0xffff_ffff_ffff_f800),
+    (0x238, 31),
     (0x240, 0xffff_ffff_ffff_f7ff),
-    (0x248, 0xffff_ffff_ffff_f000),
-    (0x250, 0xfff),
+    (0x248, 0x7ff),
+    (0x250, 0xffff_ffff_ffff_ffff),
     (0x258, 0x1000),
     (0x260, 0x17ff),
     (0x268, 0x1800),
     (0x270, 0x7fff_f7ff),
-    (0x278, 0x7fff_f800),
+    (0x278, 0xffff_ffff_ffff_f7ff),
     (0x280, 0x7fff_ffff),
-    (0x288, 0x8000_0000),
-    (0x290, 0x8000_0800),
+    (0x288, 0x7fff_ffff),
+    (0x290, 0xffff_ffff_8000_0000),
     (0x298, 0x7ff),
-    (0x2a0, 0xffff_ffff_8000_07ff),
-    (0x2a8, 0xffff_ffff_8000_0800),
+    (0x2a0, 0x7fff_f800),
+    (0x2a8, 0x8000_0000_0000_0000),
     (0x2b0, 1),
     (0x2b8, 0xffff_ffff_7fff_f7ff),
     (0x2c0, 1),
@@ -226,7 +226,7 @@ pub(crate) static BORDERS: [(u32, u64); 55] = [
 ];
 
 /// A hart in user mode, with MPRV and SUM set, MPP for user mode, and satp on. Laid in 89 steps. The
-/// ROM has 680 bytes, checksum 0x8684_7ab3_fcef_2443; its boot makes 135 steps.
+/// ROM has 688 bytes, checksum 0x2d2e_d154_6226_c011; its boot makes 137 steps.
 pub(crate) static SHIFTED: [(u32, u64); 54] = [
     (0x200, 0x6_0000),
     (0x208, 0x17ff),
@@ -235,21 +235,21 @@ pub(crate) static SHIFTED: [(u32, u64); 54] = [
     (0x220, 0x7fff_f800),
     (0x228, 0x7fff_ffff),
     (0x230, 0x8000_0000),
-    (0x238, 0x8000_0800),
+    (0x238, 32),
     (0x240, 0xffff_ffff_8000_0000),
-    (0x248, 0xffff_ffff_8000_07ff),
-    (0x250, 0xffff_ffff_8000_0800),
+    (0x248, 0x800),
+    (0x250, 0xffff_ffff_ffff_f800),
     (0x258, 0xffff_ffff_7fff_ffff),
     (0x260, 0xffff_ffff_7fff_f7ff),
     (0x268, 0xffff_ffff),
     (0x270, 0x1_0000_0000),
-    (0x278, 0x7fff_ffff_ffff_ffff),
+    (0x278, 0x1234_5800),
     (0x280, 0x8000_0000_0000_0000),
-    (0x288, 0x800_0000_0800),
-    (0x290, 0xffff_ffff_ffff_f000),
+    (0x288, 0x8000_0000),
+    (0x290, 0xffff_ffff_7fff_ffff),
     (0x298, 0x8000_0000_0008_0008),
-    (0x2a0, 1),
-    (0x2a8, 31),
+    (0x2a0, 0x7fff_f7ff),
+    (0x2a8, 0x1_0000_0000),
     (0x2b8, 0x7ff),
     (0x2c0, 0x1000),
     (0x2c8, 0x17ff),
