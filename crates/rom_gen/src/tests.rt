@@ -5,7 +5,7 @@ ghost use Rattle.std.specs.Prelude.{◌<◌, IfSome};
 ghost use Rattle.rom_gen.specs.Executed.{IsPlace};
 
 use crate::tests_first::{FIRST_EIGHT, FIRST_ONE};
-use crate::tests_support::{booted, go, holds, machine_of, same, same_machine};
+use crate::tests_support::{booted, go, holds, machine_of, same, same_events, same_machine};
 use crate::tests_words::{AFTER_PROGRAM, AT_RESET, DISPATCH, FILLS, PROGRAM, RESERVES};
 use crate::{NoMemory, Rom, device_stub, dispatch, hart_stub, rom_of};
 use byteorder::{ByteOrder, LittleEndian};
@@ -91,11 +91,22 @@ fn same_words(rt: &impl Abort, bytes: &[u8], words: &[u32]) {
     }
 }
 
+/// The ROM of a machine has these words.
+fn has_words(
+    rt: &impl Abort,
+    alloc: Global,
+    machine: &Machine,
+    words: &[u32],
+) -> Result<(), NoMemory> {
+    let rom = made(rt, alloc, machine)?;
+    same_words(rt, rom.bytes(), words);
+    Ok(())
+}
+
 #[test]
 fn a_hart_at_reset(rt: HostRuntime) -> Result<(), Fail> {
     let machine = machine_of(&rt, rt.alloc(), 1, 16, &[])?;
-    let rom = made(&rt, rt.alloc(), &machine)?;
-    same_words(&rt, rom.bytes(), &AT_RESET);
+    has_words(&rt, rt.alloc(), &machine, &AT_RESET)?;
     comes_back(&rt, rt.alloc(), &machine, (424, 0x50_1bc5_4036_c798, 100))?;
     Ok(())
 }
@@ -230,23 +241,24 @@ static JUMPED: [Event; 1] = [Event::Commit {
     vl: None,
 }];
 
+/// A hart after ten turns of a step each.
+fn after_ten(rt: &impl Abort, alloc: Global) -> Result<Machine, NoMemory> {
+    let mut machine = machine_of(rt, alloc, 1, 1, &PROGRAM)?;
+    for _ in 0..10 {
+        go(rt, &mut machine, None);
+    }
+    Ok(machine)
+}
+
 #[test]
 fn a_hart_whose_loads_are_those_of_user_mode(rt: HostRuntime) -> Result<(), Fail> {
-    let mut machine = machine_of(&rt, rt.alloc(), 1, 1, &PROGRAM)?;
-    for _ in 0..10 {
-        go(&rt, &mut machine, None);
-    }
-    let rom = made(&rt, rt.alloc(), &machine)?;
-    same_words(&rt, rom.bytes(), &AFTER_PROGRAM);
+    let machine = after_ten(&rt, rt.alloc())?;
+    has_words(&rt, rt.alloc(), &machine, &AFTER_PROGRAM)?;
     boots_too(&rt, rt.alloc(), &machine, FIRST_ONE, 130)?;
-    let mut left = comes_back(&rt, rt.alloc(), &machine, (464, 0xded7_ff3c_fa01_fdf0, 104))?;
+    let measures = (464, 0xded7_ff3c_fa01_fdf0, 104);
+    let mut left = comes_back(&rt, rt.alloc(), &machine, measures)?;
     go(&rt, &mut left, None);
-    holds(
-        &rt,
-        left.events() == JUMPED.as_slice(),
-        "the jump is next",
-        0,
-    );
+    same_events(&rt, left.events(), &JUMPED);
     Ok(())
 }
 

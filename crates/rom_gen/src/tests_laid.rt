@@ -5,9 +5,10 @@ use crate::tests::{Measures, comes_back};
 use crate::tests_numbers::{
     BORDERS, EIGHT, EIGHT_ROWS, IN_LOOP, IN_LOOP_ROWS, LARGEST_ROWS, LAYS, SHIFTED, TWO, TWO_ROWS,
 };
-use crate::tests_support::{booted, go, holds, machine_of, same_machine};
+use crate::tests_support::{booted, goes_on, machine_of};
 use crate::tests_words::PROGRAM;
 use byteorder::{ByteOrder, LittleEndian};
+use hart_turns::Machine;
 use std::alloc::Global;
 use std::process::Abort;
 use std::test::Fail;
@@ -95,16 +96,18 @@ fn lays(alloc: Global, laid: Laid) -> Result<Vec<u8>, NoMemory> {
     Ok(rom)
 }
 
-/// The laid machine comes back, and both go on in the same way.
-fn lays_and_saves(rt: &impl Abort, alloc: Global, laid: Laid) -> Result<(), NoMemory> {
+/// The laid machine.
+fn machine_laid(rt: &impl Abort, alloc: Global, laid: Laid) -> Result<Machine, NoMemory> {
     let like = machine_of(rt, alloc, laid.harts, 4, &PROGRAM)?;
     let rom = lays(alloc, laid)?;
-    let mut machine = booted(rt, alloc, &like, rom, laid.steps)?;
+    booted(rt, alloc, &like, rom, laid.steps)
+}
+
+/// The laid machine comes back, and both go on in the same way.
+fn lays_and_saves(rt: &impl Abort, alloc: Global, laid: Laid) -> Result<(), NoMemory> {
+    let mut machine = machine_laid(rt, alloc, laid)?;
     let mut left = comes_back(rt, alloc, &machine, laid.measures)?;
-    go(rt, &mut machine, Some(0x41));
-    go(rt, &mut left, Some(0x41));
-    holds(rt, left.events() == machine.events(), "same events", 0);
-    same_machine(rt, &left, &machine);
+    goes_on(rt, &mut left, &mut machine);
     Ok(())
 }
 

@@ -12,7 +12,7 @@ use csr_file::numbers::{
     MSTATUS, MTVAL, MTVEC, SATP, SCAUSE, SCOUNTEREN, SENVCFG, SEPC, SSCRATCH, STVAL, STVEC,
 };
 use guest_ram::{BASE, GuestRam};
-use hart_step::Hart;
+use hart_step::{Event, Hart};
 use hart_turns::{Machine, TurnEnd};
 use plic::Plic;
 use sim_config::Shape;
@@ -84,6 +84,11 @@ pub(crate) fn go(rt: &impl Abort, machine: &mut Machine, input: Option<u8>) {
     assert!(rt; machine.taken() < 1000);
     let end = machine.turn(input);
     same(rt, &end, &TurnEnd::Goes, "end of a turn", 0);
+}
+
+/// Compares events.
+pub(crate) fn same_events(rt: &impl Abort, got: &[Event], want: &[Event]) {
+    same(rt, &got, &want, "events", 0);
 }
 
 /// The bytes of a machine's memory.
@@ -265,4 +270,12 @@ pub(crate) fn same_machine(rt: &impl Abort, got: &Machine, want: &Machine) {
     want.see_fit();
     assert!(rt; got.shape().harts == harts);
     same_contexts(rt, got.board(), want.board(), harts);
+}
+
+/// Two machines that are the same make the same turn.
+pub(crate) fn goes_on(rt: &impl Abort, got: &mut Machine, want: &mut Machine) {
+    go(rt, got, Some(0x41));
+    go(rt, want, Some(0x41));
+    same_events(rt, got.events(), want.events());
+    same_machine(rt, got, want);
 }
