@@ -1,6 +1,6 @@
 -- The parts of the ROM, one after another.
-use Rattle.std.proofs.Common.{◌≡◌, ℕ, zero, suc, ◌+◌, ◌*◌, ◌<◌, ◌≤◌, ⊎_elim, true, cond, List, [], ◌∷◌, ◌++◌, length, take, sym, ap, ◌∙◌, arith, subst, append_assoc, length-append, ◌==◌, eq-eqb, add_assoc, refl}
 use Rattle.std.specs.Prelude.{slice_index}
+use Rattle.std.proofs.Common.{◌≡◌, ℕ, zero, suc, ◌+◌, ◌*◌, ◌<◌, ◌≤◌, ⊎_elim, true, cond, List, [], ◌∷◌, ◌++◌, length, take, sym, ap, ◌∙◌, arith, subst, append_assoc, length-append, ◌==◌, eq-eqb, add_assoc, refl}
 use Rattle.std.proofs.Math.ListN.{get_or}
 use Rattle.std.proofs.Math.Seq.{take-length}
 use Rattle.std.proofs.lemmas.Bool.{cases_eq, ne_eqb}
@@ -13,14 +13,14 @@ use Rattle.hart_step.specs.Harts.{reset_hart, CoreState}
 use Rattle.hart_step.specs.Memory.{most_rom, rom_base}
 use Rattle.hart_turns.specs.Machine.{MachineState, is_running}
 use Rattle.hart_turns.specs.Fit.{IsFit}
-use Rattle.rom_gen.proofs.AllHarts.{total}
+use Rattle.hart_turns.specs.Boot.{booted}
 use Rattle.rom_gen.specs.Items.{code}
 use Rattle.rom_gen.specs.Executed.{Restores}
 use Rattle.rom_gen.specs.Rom.{all_blocks, device_bytes, device_place, dispatch_insns, first_place, hart_bytes, start_places, rom_bytes, block_places, table, hart_size, addresses, dispatch_bytes}
+use Rattle.rom_gen.proofs.AllHarts.{total}
 use Rattle.rom_gen.proofs.Parts.{places_length, address_at, addresses_length}
 use Rattle.rom_gen.proofs.Restores.{restores, steps_of}
 use Rattle.rom_gen.proofs.RomParts.{hart_length, hart_small, starts_length}
-use Rattle.hart_turns.specs.Boot.{booted}
 
 start_is : (harts : List Hart) (p i : ℕ) → i < length harts → slice_index (block_places p harts) i ≡ p + length (all_blocks (take i harts))
 unfolding block_places all_blocks

@@ -1,24 +1,24 @@
 -- The blocks of the ROM, executed where their bytes stand.
-use Rattle.std.proofs.Common.{◌≡◌, ℕ, ◌+◌, ◌%◌, ◌≤◌, List, length, arith}
 use Rattle.std.specs.Prelude.{pos, None}
+use Rattle.std.proofs.Common.{◌≡◌, ℕ, ◌+◌, ◌%◌, ◌≤◌, List, length, arith}
 use Rattle.rv_decode.specs.declared.Insn.{Insn}
+use Rattle.csr_file.specs.declared.registers.Registers.{Registers}
 use Rattle.clint.specs.State.{hart_count}
 use Rattle.board_bus.specs.Board.{BoardState, IsFit as IsFitBoard, reset_board}
 use Rattle.hart_step.specs.declared.hart.Hart.{Hart}
 use Rattle.hart_step.specs.Memory.{most_rom, rom_base}
 use Rattle.hart_step.specs.Step.{unreserved_hart}
+use Rattle.hart_step.specs.DebugReset.{debug_registers}
+use Rattle.hart_step.specs.Harts.{hart_of}
 use Rattle.hart_turns.specs.Boot.{Booting, Frees}
 use Rattle.rom_gen.specs.Items.{Spelling, StandAt, word_count}
 use Rattle.rom_gen.specs.ItemEffects.{freed}
-use Rattle.hart_step.specs.DebugReset.{debug_registers}
 use Rattle.rom_gen.specs.Rom.{device_bytes, device_items, device_size, device_values, hart_bytes, hart_items, hart_values, pool_place}
-use Rattle.rom_gen.proofs.DeviceEnd.{device_block, Led}
 use Rattle.rom_gen.specs.Executed.{HasCome}
+use Rattle.rom_gen.proofs.DeviceEnd.{device_block, Led}
 use Rattle.rom_gen.proofs.HartBlock.{IsTarget, hart_block}
 use Rattle.rom_gen.proofs.RomParts.{Laid, device_count, device_fixed, device_small, hart_few, hart_fixed, hart_short, laid}
 use Rattle.rom_gen.proofs.WantLayout.{want_layout}
-use Rattle.csr_file.specs.declared.registers.Registers.{Registers}
-use Rattle.hart_step.specs.Harts.{hart_of}
 
 -- ---- the block of a hart
 

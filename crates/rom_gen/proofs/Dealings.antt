@@ -1,25 +1,25 @@
 -- One deed after another is written.
-use Rattle.std.proofs.Common.{◌≡◌, ◌≢◌, ℕ, zero, suc, ◌+◌, ◌*◌, ◌/◌, ◌<◌, ◌≤◌, Bool, true, false, cond, List, [], ◌∷◌, ◌++◌, length, take, refl, sym, ap, ◌∙◌, arith, subst, append_assoc, length-append, ◌==◌}
 use Rattle.std.specs.Prelude.{ℤ, pos, negsuc, slice_index, Some}
+use Rattle.std.proofs.Common.{◌≡◌, ◌≢◌, ℕ, zero, suc, ◌+◌, ◌*◌, ◌/◌, ◌<◌, ◌≤◌, Bool, true, false, cond, List, [], ◌∷◌, ◌++◌, length, take, refl, sym, ap, ◌∙◌, arith, subst, append_assoc, length-append, ◌==◌}
 use Rattle.std.proofs.lemmas.Bool.{ne_eqb}
 use Rattle.std.proofs.lemmas.List.{append-nil, take_more}
 use Rattle.byteorder.specs.Endian.{little_bytes}
 use Rattle.rv_decode.specs.declared.Insn.{Insn}
 use Rattle.rv_decode.specs.Encode.{encoded}
+use Rattle.clint.specs.State.{ClintRegisters, hart_count}
+use Rattle.clint.specs.Access.{loaded}
+use Rattle.clint.specs.Layout.{register_at}
+use Rattle.plic.specs.State.{context_count as contexts_of}
+use Rattle.board_bus.specs.Board.{BoardState, IsFit}
 use Rattle.rom_gen.specs.Items.{Put, Spelling, Store, Width, Byte, Word, Double, all_insns, code, size_of, store_insn}
 use Rattle.rom_gen.specs.Wants.{put_insns, put_values, high_part, low_part}
 use Rattle.rom_gen.specs.Deeds.{Deed, Aim, Save, Again, Read, all_deed_values, deed_items, deed_values, placed_deeds}
 use Rattle.rom_gen.specs.DeviceBlock.{compare_deeds, context_deeds, device_deeds, marks_deeds, queue_deeds, soft_deeds, timer_deeds}
 use Rattle.rom_gen.specs.Writing.{Adds, Dealt, offset_of}
 use Rattle.rom_gen.specs.declared.writer.Writer.{Writer}
-use Rattle.plic.specs.State.{context_count as contexts_of}
-use Rattle.board_bus.specs.Board.{BoardState, IsFit}
 use Rattle.rom_gen.specs.Rom.{device_bytes, device_items, device_values, far_insns, padding, pool_place}
 use Rattle.rom_gen.proofs.RomParts.{device_fixed, device_words}
 use Rattle.rom_gen.proofs.Writings.{block_written, drafted, adds_join, insns_append, offset_on}
-use Rattle.clint.specs.State.{ClintRegisters, hart_count}
-use Rattle.clint.specs.Access.{loaded}
-use Rattle.clint.specs.Layout.{register_at}
 use Rattle.rom_gen.proofs.Contexts.{row_is}
 
 -- one more word

@@ -1,6 +1,6 @@
 -- The deeds of the device block, one after another.
-use Rattle.std.proofs.Common.{◌≡◌, ℕ, ◌+◌, ◌*◌, ◌%◌, ◌^◌, ◌<◌, ◌≤◌, ⊎_elim, Bool, true, false, cond, List, [], ◌∷◌, ◌++◌, length, refl, sym, ap, ◌∙◌, arith, subst, add_assoc, length-append, eq-eqb, ◌==◌, map}
 use Rattle.std.specs.Prelude.{ℤ, pos, slice_set, slice_index}
+use Rattle.std.proofs.Common.{◌≡◌, ℕ, ◌+◌, ◌*◌, ◌%◌, ◌^◌, ◌<◌, ◌≤◌, ⊎_elim, Bool, true, false, cond, List, [], ◌∷◌, ◌++◌, length, refl, sym, ap, ◌∙◌, arith, subst, add_assoc, length-append, eq-eqb, ◌==◌, map}
 use Rattle.std.proofs.lemmas.Bool.{cases_eq, ne_eqb, eqb-true}
 use Rattle.std.proofs.lemmas.Int.{ints}
 use Rattle.std.proofs.lemmas.List.{append-nil, get_or-set_same, get_or-set_other, length-set, length-map}
@@ -21,13 +21,13 @@ use Rattle.rom_gen.specs.ItemEffects.{AllSpelled, all_do, does, extended, loads,
 use Rattle.rom_gen.specs.Items.{Put, Store, Load, Spelled, Spelling, StandAt, Width, load, load_insn, size_of, store, store_insn, upper, word_count}
 use Rattle.rom_gen.specs.Wants.{is_short, is_small, pool, put_insns, put_values, Pooled}
 use Rattle.rom_gen.specs.Deeds.{Deed, Aim, Save, Again, Read, all_deed_values, deed_items, deed_values, placed_deeds}
+use Rattle.rom_gen.specs.Executed.{Stay}
 use Rattle.rom_gen.proofs.Runs.{IsReached, IsSound, Known, Runs, board_after_deed, known_after, known_all, knows}
 use Rattle.rom_gen.proofs.Standing.{put_is}
 use Rattle.rom_gen.proofs.ItemSteps.{stand_first, stand_second}
 use Rattle.rom_gen.proofs.Placed.{pool_append, pool_length, spelled_append}
 use Rattle.rom_gen.proofs.WantLayout.{put_spelled}
 use Rattle.rom_gen.proofs.Stays.{stay_join, stay_same, stay_set, stay_stored}
-use Rattle.rom_gen.specs.Executed.{Stay}
 
 -- a hart at work in a block
 pub record WorksHart (hart : Hart) (block : ℕ) (known : Known) (csrs : Registers) : Type 0 where

@@ -1,6 +1,6 @@
 -- The device block puts the devices back, and goes on at the block of hart 0.
-use Rattle.std.proofs.Common.{◌≡◌, ℕ, ◌+◌, ◌*◌, ◌%◌, ◌^◌, ◌<◌, ◌≤◌, Bool, true, false, cond, List, [], ◌∷◌, ◌++◌, length, refl, sym, ap, ◌∙◌, arith, subst, ◌==◌, is_some}
 use Rattle.std.specs.Prelude.{ℤ, pos, slice_set}
+use Rattle.std.proofs.Common.{◌≡◌, ℕ, ◌+◌, ◌*◌, ◌%◌, ◌^◌, ◌<◌, ◌≤◌, Bool, true, false, cond, List, [], ◌∷◌, ◌++◌, length, refl, sym, ap, ◌∙◌, arith, subst, ◌==◌, is_some}
 use Rattle.std.proofs.lemmas.Bool.{lt-ltb}
 use Rattle.std.proofs.lemmas.List.{get_or-set_same, get_or-set_other, length-set, set-set}
 use Rattle.rv_decode.specs.declared.Insn.{Insn}
@@ -13,20 +13,20 @@ use Rattle.hart_step.specs.Memory.{most_rom, rom_base}
 use Rattle.hart_step.specs.Effects.{at_pc, even_part, pc_after, with_write}
 use Rattle.hart_step.specs.Step.{memory_of}
 use Rattle.hart_turns.specs.Boot.{Booting, Leads}
+use Rattle.hart_turns.proofs.BootSteps.{leads_join}
 use Rattle.rom_gen.specs.ItemEffects.{AllSpelled, all_do, becomes, does, moved}
 use Rattle.rom_gen.specs.Items.{Put, Store, Go, Spelling, StandAt, Width, all_insns, code, go, pair, size_of, store_insn, word_count, Stands}
 use Rattle.rom_gen.specs.Wants.{high_part, is_short, low_part, put_insns, Pooled}
 use Rattle.rom_gen.specs.Deeds.{Deed, Aim, Save, Again, Read, all_deed_values, deed_items, deed_values, placed_deeds}
-use Rattle.rom_gen.proofs.Runs.{Known, Runs, known_all}
 use Rattle.rom_gen.specs.DeviceBlock.{device_deeds}
 use Rattle.rom_gen.specs.Rom.{device_items, far_insns}
+use Rattle.rom_gen.specs.Executed.{HasCome, Stay}
+use Rattle.rom_gen.proofs.Runs.{Known, Runs, known_all}
 use Rattle.rom_gen.proofs.Deeds.{Did, Works, WorksHart, deeds_do, do_append, moved_again, count_append}
 use Rattle.rom_gen.proofs.DeviceRuns.{devices_run}
-use Rattle.rom_gen.specs.Executed.{HasCome, Stay}
 use Rattle.rom_gen.proofs.HartBlock.{insns_count}
 use Rattle.rom_gen.proofs.ItemSteps.{AllFollowed, code_length, item_steps, items_lead, stand_first, stand_second}
 use Rattle.rom_gen.proofs.Standing.{put_is}
-use Rattle.hart_turns.proofs.BootSteps.{leads_join}
 use Rattle.rom_gen.proofs.Placed.{spelled_append}
 use Rattle.rom_gen.proofs.WantLayout.{high_fits, high_multiple, low_fits, pair_value}
 use Rattle.rom_gen.proofs.Stays.{stay_join, stay_set}

@@ -1,20 +1,20 @@
 -- Lists of deeds, one for each register of a kind, lead from a board to the one in which all are put back.
-use Rattle.std.proofs.Common.{◌≡◌, ◌≢◌, ℕ, zero, suc, ◌+◌, ◌*◌, ◌%◌, ◌^◌, ◌<◌, ◌≤◌, Bool, true, false, cond, List, [], ◌∷◌, ◌++◌, length, refl, sym, ap, ◌∙◌, arith, subst, append_assoc, length-append, bit_and, ◌==◌}
 use Rattle.std.specs.Prelude.{All, ℤ, pos, slice_set, slice_index}
+use Rattle.std.proofs.Common.{◌≡◌, ◌≢◌, ℕ, zero, suc, ◌+◌, ◌*◌, ◌%◌, ◌^◌, ◌<◌, ◌≤◌, Bool, true, false, cond, List, [], ◌∷◌, ◌++◌, length, refl, sym, ap, ◌∙◌, arith, subst, append_assoc, length-append, bit_and, ◌==◌}
 use Rattle.std.proofs.lemmas.Int.{ints}
 use Rattle.std.proofs.lemmas.List.{append-nil, length-set}
 use Rattle.rv_alu.specs.Bits.{low_bytes}
 use Rattle.rv_decode.specs.Ranges.{IsSigned}
 use Rattle.guest_ram.specs.Bytes.{base}
-use Rattle.plic.specs.State.{IsWithinSources, context_count, source_bits}
 use Rattle.clint.specs.State.{hart_count}
+use Rattle.plic.specs.State.{IsWithinSources, context_count, source_bits}
 use Rattle.board_bus.specs.Board.{BoardState, stored}
 use Rattle.board_bus.specs.Listed.{is_listed}
 use Rattle.hart_step.specs.Effects.{offset_by}
 use Rattle.rom_gen.specs.Items.{Width, Byte, Word, Double, size_of}
 use Rattle.rom_gen.specs.Deeds.{Deed, Aim, Save}
-use Rattle.rom_gen.proofs.Runs.{IsReached, IsSound, Known, Runs, board_after_deed, known_after, knows}
 use Rattle.rom_gen.specs.DeviceBlock.{compare_deeds, context_deeds, queue_deeds, soft_deeds}
+use Rattle.rom_gen.proofs.Runs.{IsReached, IsSound, Known, Runs, board_after_deed, known_after, knows}
 use Rattle.rom_gen.proofs.Claims.{four_masks}
 use Rattle.rom_gen.proofs.Console.{looped, unsent}
 use Rattle.rom_gen.proofs.Contexts.{enable_listed, enable_stored, threshold_listed, threshold_stored}

@@ -1,13 +1,13 @@
 -- The deeds of the device block lead from devices at reset to the given ones, and send nothing.
-use Rattle.std.proofs.Common.{◌≡◌, ℕ, ◌*◌, ◌%◌, ◌^◌, ◌-◌, ◌<◌, ◌≤◌, false, cond, List, [], ◌∷◌, length, refl, sym, ap, ◌∙◌, arith, subst, ◌==◌}
 use Rattle.std.specs.Prelude.{pos, negsuc, slice_set, slice_index, replicate}
+use Rattle.std.proofs.Common.{◌≡◌, ℕ, ◌*◌, ◌%◌, ◌^◌, ◌-◌, ◌<◌, ◌≤◌, false, cond, List, [], ◌∷◌, length, refl, sym, ap, ◌∙◌, arith, subst, ◌==◌}
 use Rattle.std.proofs.lemmas.Int.{ints}
 use Rattle.std.proofs.lemmas.List.{length-replicate, length-set, same_lists, get_or_default}
 use Rattle.rv_alu.specs.Bits.{low_bytes}
-use Rattle.plic.specs.State as plic
-use Rattle.plic.specs.State.{IsWithinSources, PlicRegisters, context_count, source_bits}
 use Rattle.clint.specs.State as clint
 use Rattle.clint.specs.State.{ClintRegisters, hart_count}
+use Rattle.plic.specs.State as plic
+use Rattle.plic.specs.State.{IsWithinSources, PlicRegisters, context_count, source_bits}
 use Rattle.console.specs.State.{ConsoleRegisters}
 use Rattle.console.specs.Layout.{register_at as console_register}
 use Rattle.console.specs.Access.{after_load as console_after}
@@ -16,8 +16,8 @@ use Rattle.hart_turns.specs.Gives.{board_device}
 use Rattle.rom_gen.specs.Items.{Byte, Word, Double}
 use Rattle.rom_gen.specs.ItemEffects.{extended}
 use Rattle.rom_gen.specs.Deeds.{Deed, Aim, Save, Again, Read}
-use Rattle.rom_gen.proofs.Runs.{IsReached, Known, Runs, knows}
 use Rattle.rom_gen.specs.DeviceBlock.{compare_deeds, context_deeds, device_deeds, marks_deeds, queue_deeds, timer_deeds}
+use Rattle.rom_gen.proofs.Runs.{IsReached, Known, Runs, knows}
 use Rattle.rom_gen.proofs.Console.{looped, unsent}
 use Rattle.rom_gen.proofs.Contexts.{enable_listed, enable_stored}
 use Rattle.rom_gen.proofs.HartWants.{put_at, put_count, put_x}

@@ -1,26 +1,26 @@
 -- Steps of a hart in debug mode that reach the ROM's pool, a device, or the end of debug mode.
-use Rattle.std.proofs.Common.{◌≡◌, ℕ, ◌+◌, ◌%◌, ◌^◌, ◌-◌, ◌<◌, ◌≤◌, true, false, List, ◌++◌, length, take, drop, refl, sym, ap, ◌∙◌, arith, eq-eqb, subst}
 use Rattle.std.specs.Prelude.{nat_le, None, Ok}
+use Rattle.std.proofs.Common.{◌≡◌, ℕ, ◌+◌, ◌%◌, ◌^◌, ◌-◌, ◌<◌, ◌≤◌, true, false, List, ◌++◌, length, take, drop, refl, sym, ap, ◌∙◌, arith, eq-eqb, subst}
 use Rattle.std.proofs.lemmas.Bool.{lt-leb, le-leb}
 use Rattle.byteorder.specs.Endian.{little_bytes, little_from, little_number}
 use Rattle.byteorder.specs.Numbers.{little_from-take, little_number-reads_back}
 use Rattle.rv_alu.specs.Bits.{low_bytes}
 use Rattle.rv_decode.specs.declared.Insn.{Insn}
 use Rattle.rv_decode.specs.Encode.{encoded}
+use Rattle.trap_rules.specs.Return.{debug_returned, resumed_mode, resumed_pc}
 use Rattle.sv39_walk.specs.declared.Kind.{Kind}
 use Rattle.sv39_walk.specs.Plain.{translated}
-use Rattle.board_bus.specs.Listed.{is_listed}
 use Rattle.guest_ram.specs.Bytes.{base}
-use Rattle.trap_rules.specs.Return.{debug_returned, resumed_mode, resumed_pc}
+use Rattle.board_bus.specs.Listed.{is_listed}
 use Rattle.hart_step.specs.declared.hart.Hart.{Hart}
 use Rattle.hart_step.specs.Answers.{Given, Stores, Untouched}
 use Rattle.hart_step.specs.Harts.{is_in_debug}
 use Rattle.hart_step.specs.Memory.{MemoryState, from_device, data_address, from_memory, loaded, loaded_from, most_rom, rom_base}
 use Rattle.hart_step.specs.Effects.{at_pc, effect, goes_on, pc_after, resumed, shows_nothing, shows_store, stores_at, stores_from}
 use Rattle.hart_step.specs.Step.{hart_step, shows}
+use Rattle.rom_gen.specs.Items.{Stands}
 use Rattle.rom_gen.proofs.Fetch.{room}
 use Rattle.rom_gen.proofs.Joins.{Does}
-use Rattle.rom_gen.specs.Items.{Stands}
 use Rattle.rom_gen.proofs.Steps.{at_word, does_effect}
 
 -- debug mode loads and stores in machine mode, MPRV or not

@@ -1,15 +1,19 @@
 -- The dispatch leads each hart to its block.
-use Rattle.std.proofs.Common.{◌≡◌, ℕ, ◌+◌, ◌*◌, ◌%◌, ◌^◌, ◌<◌, ◌≤◌, true, List, [], ◌∷◌, ◌++◌, length, drop, refl, sym, ap, ◌∙◌, arith, subst, is_some, false}
 use Rattle.std.specs.Prelude.{pos, None, slice_set, slice_index, is_some, All}
+use Rattle.std.proofs.Common.{◌≡◌, ℕ, ◌+◌, ◌*◌, ◌%◌, ◌^◌, ◌<◌, ◌≤◌, true, List, [], ◌∷◌, ◌++◌, length, drop, refl, sym, ap, ◌∙◌, arith, subst, is_some, false}
 use Rattle.std.proofs.lemmas.Int.{ints}
 use Rattle.std.proofs.lemmas.List.{get_or-set_same, get_or-set_other, length-set, set-set, set_comm}
 use Rattle.byteorder.specs.Endian.{little_bytes}
 use Rattle.rv_alu.specs.Arithmetic.{alu_of, modulo, bits_of}
 use Rattle.rv_alu.specs.declared.BinOp.{BinOp}
+use Rattle.rv_alu.specs.declared.Mode.{Mode}
 use Rattle.rv_decode.specs.declared.Insn.{Insn}
 use Rattle.rv_decode.specs.Encode.{encoded}
 use Rattle.rv_decode.specs.Ranges.{IsInRange}
 use Rattle.csr_file.specs.declared.registers.Registers.{Registers}
+use Rattle.csr_file.specs.Access.{allows, may_access}
+use Rattle.csr_file.specs.Numbers.{csr_mhartid, is_listed}
+use Rattle.csr_file.specs.View.{is_volatile_number, view}
 use Rattle.hart_step.specs.declared.hart.Hart.{Hart}
 use Rattle.hart_step.specs.Answers.{Given, Untouched}
 use Rattle.hart_step.specs.Harts.{hart_of, is_in_debug, register, reset_hart}
@@ -17,23 +21,19 @@ use Rattle.hart_step.specs.Memory.{MemoryState, most_rom, rom_base}
 use Rattle.hart_step.specs.Effects.{at_pc, effect, even_part, offset_by, pc_after, shows_write, with_write, writes}
 use Rattle.hart_step.specs.Step.{hart_step, memory_of, shows}
 use Rattle.hart_turns.specs.Boot.{Booting, Leads, boot_hart}
+use Rattle.hart_turns.proofs.BootSteps.{leads_join}
 use Rattle.rom_gen.specs.Items.{StandAt, code, Stands}
 use Rattle.rom_gen.specs.ItemEffects.{becomes}
 use Rattle.rom_gen.specs.Rom.{dispatch_insns, dispatch_bytes, table}
+use Rattle.rom_gen.specs.Executed.{HasCome, Dispatches, HasBegun, sent_on}
 use Rattle.rom_gen.proofs.Blocks.{becomes_again, becomes_itself}
 use Rattle.rom_gen.proofs.Fetch.{room}
 use Rattle.rom_gen.proofs.Forms.{go_step, pooled_effect}
-use Rattle.rom_gen.specs.Executed.{HasCome, Dispatches, HasBegun, sent_on}
 use Rattle.rom_gen.proofs.ItemSteps.{leads_quiet, stand_first, stand_second, code_length}
 use Rattle.rom_gen.proofs.Standing.{put_is, stands_put}
-use Rattle.hart_turns.proofs.BootSteps.{leads_join}
 use Rattle.rom_gen.proofs.Joins.{Does}
 use Rattle.rom_gen.proofs.Steps.{at_word, does_effect}
 use Rattle.rom_gen.proofs.WordForms.{IsWord, modulo_12, word_long_fits, word_r_fits}
-use Rattle.rv_alu.specs.declared.Mode.{Mode}
-use Rattle.csr_file.specs.Access.{allows, may_access}
-use Rattle.csr_file.specs.Numbers.{csr_mhartid, is_listed}
-use Rattle.csr_file.specs.View.{is_volatile_number, view}
 use Rattle.rom_gen.proofs.RomParts.{entry_stands}
 
 -- a hart with other registers, at a place of the ROM

@@ -1,6 +1,6 @@
 -- A hart's block restores it, in any layout.
-use Rattle.std.proofs.Common.{◌≡◌, ℕ, ◌+◌, ◌*◌, ◌%◌, ◌<◌, ◌≤◌, List, [], ◌∷◌, ◌++◌, length, refl, sym, ap, ◌∙◌, arith, subst, length-append, add_assoc}
 use Rattle.std.specs.Prelude.{Some, None, slice_index, slice_set}
+use Rattle.std.proofs.Common.{◌≡◌, ℕ, ◌+◌, ◌*◌, ◌%◌, ◌<◌, ◌≤◌, List, [], ◌∷◌, ◌++◌, length, refl, sym, ap, ◌∙◌, arith, subst, length-append, add_assoc}
 use Rattle.std.proofs.lemmas.List.{get_or-set_same, length-set, set-set}
 use Rattle.rv_alu.specs.Modes.{level}
 use Rattle.rv_decode.specs.declared.Insn.{Insn}
@@ -12,20 +12,20 @@ use Rattle.board_bus.specs.Board.{BoardState}
 use Rattle.hart_step.specs.declared.hart.Hart.{Hart}
 use Rattle.hart_step.specs.Harts.{hart_of, register, reset_hart}
 use Rattle.hart_step.specs.Step.{memory_of, unreserved_hart}
+use Rattle.hart_step.specs.DebugReset.{debug_registers}
 use Rattle.hart_turns.specs.Boot.{Booting, Frees, Leads}
+use Rattle.hart_turns.proofs.BootSteps.{frees_join}
 use Rattle.rom_gen.specs.ItemEffects.{AllSpelled, all_do, becomes, rom_while, IsFollowed, left_debug, freed}
 use Rattle.rom_gen.specs.Items.{Go, Item, Leave, leave, Put, Csr, CsrImm, Store, Load, Spelling, StandAt, all_insns, code, word_count, Stands}
-use Rattle.hart_step.specs.DebugReset.{debug_registers}
 use Rattle.rom_gen.specs.HartWants.{controls, first_wants, registers}
 use Rattle.rom_gen.specs.Wants.{Pooled, Want, Reg, all_values, hart_all, placed, pool}
+use Rattle.rom_gen.specs.Executed.{HasCome}
 use Rattle.rom_gen.proofs.Layouts.{AllGood, AllInner, AllKeep, IsGood, IsInner, IsLayout, Leaves, all_csrs}
 use Rattle.rom_gen.proofs.Blocks.{inner_block}
 use Rattle.rom_gen.proofs.HartWants.{AllControl, SameBut2, controls_restore, csrs_append, numbered_csrs, controls_x, numbered_x, put_x, x_restored}
 use Rattle.rom_gen.proofs.ItemSteps.{AllFollowed, code_length, item_steps, items_lead, stand_first, stand_second}
-use Rattle.hart_turns.proofs.BootSteps.{frees_join}
 use Rattle.rom_gen.proofs.Placed.{all_inner, hart_append, inner_append, placed_append, placed_base, placed_csrs, placed_spelled, pool_append, pool_length, spelled_append}
 use Rattle.rom_gen.proofs.Left.{left_is}
-use Rattle.rom_gen.specs.Executed.{HasCome}
 
 inner_item : (item : Item) → IsInner item → IsFollowed item
 inner_item (Put i v) inner = tt

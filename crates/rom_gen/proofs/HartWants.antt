@@ -1,6 +1,6 @@
 -- What the wants of a hart leave of one that comes out of reset in debug mode.
-use Rattle.std.proofs.Common.{◌≡◌, ◌≢◌, ℕ, zero, suc, ◌+◌, ◌*◌, ◌<◌, ◌≤◌, ⊎_elim, List, [], ◌∷◌, ◌++◌, length, refl, sym, ap, ◌∙◌, arith}
 use Rattle.std.specs.Prelude.{Some, slice_index, slice_set}
+use Rattle.std.proofs.Common.{◌≡◌, ◌≢◌, ℕ, zero, suc, ◌+◌, ◌*◌, ◌<◌, ◌≤◌, ⊎_elim, List, [], ◌∷◌, ◌++◌, length, refl, sym, ap, ◌∙◌, arith}
 use Rattle.std.proofs.Math.ListN.{set}
 use Rattle.std.proofs.lemmas.Bool.{cases_eq, cases_lt}
 use Rattle.std.proofs.lemmas.List.{get_or-set_same, get_or-set_other, length-set, same_lists, get_or_default}
@@ -12,11 +12,11 @@ use Rattle.csr_file.specs.Numbers.{csr_dcsr, csr_dpc}
 use Rattle.csr_file.specs.Write.{written}
 use Rattle.csr_file.specs.declared.registers.Registers.{Registers}
 use Rattle.hart_step.specs.declared.hart.Hart.{Hart}
+use Rattle.hart_step.specs.DebugReset.{debug_registers}
 use Rattle.rom_gen.specs.Items.{Spelling}
 use Rattle.rom_gen.specs.HartWants.{controls, numbered, slot_wants}
-use Rattle.hart_step.specs.DebugReset.{debug_registers}
-use Rattle.rom_gen.proofs.Registers.{put_back, debug_back, kept_back}
 use Rattle.rom_gen.specs.Wants.{Want, Reg, Control, hart_all, placed}
+use Rattle.rom_gen.proofs.Registers.{put_back, debug_back, kept_back}
 use Rattle.rom_gen.proofs.Layouts.{AllGood, IsLayout, Leaves, all_csrs}
 use Rattle.rom_gen.proofs.Placed.{count_kept, hart_append}
 

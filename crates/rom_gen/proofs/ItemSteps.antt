@@ -1,8 +1,7 @@
 -- The steps of a hart at the spelling of an item do what the item does.
-use Rattle.std.proofs.Common.{◌≡◌, ℕ, ◌+◌, ◌*◌, ◌<◌, ◌≤◌, Bool, true, false, not, ◌&&◌, cond, List, [], ◌∷◌, ◌++◌, length, drop, refl, sym, ap, ◌∙◌, arith, subst, append_assoc}
 use Rattle.std.specs.List.{list_any}
 use Rattle.std.specs.Prelude.{is_some, Option, Some, None, slice_set, map}
-use Rattle.csr_file.specs.Write.{written}
+use Rattle.std.proofs.Common.{◌≡◌, ℕ, ◌+◌, ◌*◌, ◌<◌, ◌≤◌, Bool, true, false, not, ◌&&◌, cond, List, [], ◌∷◌, ◌++◌, length, drop, refl, sym, ap, ◌∙◌, arith, subst, append_assoc}
 use Rattle.std.proofs.lemmas.List.{append-nil, get_or-set_same, length-set, drop-drop, drop_at, length-map}
 use Rattle.std.proofs.Math.ListN.{set}
 use Rattle.byteorder.specs.Endian.{little_bytes}
@@ -12,8 +11,10 @@ use Rattle.rv_alu.specs.declared.BinOp.{BinOp}
 use Rattle.rv_alu.specs.declared.Mode.{Mode}
 use Rattle.rv_decode.specs.declared.Insn.{Insn}
 use Rattle.rv_decode.specs.Encode.{encoded}
+use Rattle.csr_file.specs.Write.{written}
 use Rattle.csr_file.specs.declared.registers.Registers.{Registers}
 use Rattle.trap_rules.specs.Interrupt.{picked}
+use Rattle.trap_rules.specs.Return.{debug_returned}
 use Rattle.hart_step.specs.declared.event.Put.{Put as Stored}
 use Rattle.hart_step.specs.declared.hart.Hart.{Hart}
 use Rattle.hart_step.specs.Answers.{Access, Given, Loads, Stores, Untouched}
@@ -22,13 +23,12 @@ use Rattle.hart_step.specs.Memory.{MemoryState}
 use Rattle.hart_step.specs.Effects.{at_pc, offset_by, pc_after, with_write}
 use Rattle.hart_step.specs.Step.{after_store, hart_step, memory_of, without_reservation}
 use Rattle.hart_turns.specs.Gives.{board_gives, board_after, board_device}
-use Rattle.trap_rules.specs.Return.{debug_returned}
 use Rattle.hart_turns.specs.Boot.{Booting, Frees, Leads, boot_hart}
+use Rattle.hart_turns.proofs.BootSteps.{leads_join}
 use Rattle.rom_gen.specs.Items.{Item, Put, Csr, CsrImm, Store, Go, Spelled, small, upper, pair, pooled, csr, csr_imm, store, load, go, leave, Leave, Load, size_of, Spelling, StandAt, all_insns, code, word_count, Stands}
 use Rattle.rom_gen.specs.ItemEffects.{extended, AllSpelled, all_do, becomes, does, hart_after, IsFollowed, Moves, freed, is_leave, left_debug, rom_while}
 use Rattle.rom_gen.proofs.Fetch.{room}
 use Rattle.rom_gen.proofs.InDebug.{written_debugs}
-use Rattle.hart_turns.proofs.BootSteps.{leads_join}
 use Rattle.rom_gen.proofs.Devices.{leave_step}
 use Rattle.rom_gen.proofs.Joins.{Does, acted, frees_step, leads_step, length-after}
 use Rattle.rom_gen.proofs.Steps.{csr_imm_step, csr_step, small_step}

@@ -1,7 +1,7 @@
 -- Boot steps, one after another.
-use Rattle.std.proofs.Common.{◌≡◌, ℕ, suc, ◌+◌, ◌<◌, Bool, true, false, not, ◌&&◌, cond, List, [], ◌++◌, length, ap, ◌∙◌, arith, refl}
 use Rattle.std.specs.Prelude.{Option, Some, None, slice_set}
 use Rattle.std.specs.List.{list_any}
+use Rattle.std.proofs.Common.{◌≡◌, ℕ, suc, ◌+◌, ◌<◌, Bool, true, false, not, ◌&&◌, cond, List, [], ◌++◌, length, ap, ◌∙◌, arith, refl}
 use Rattle.std.proofs.Math.ListN.{set}
 use Rattle.std.proofs.lemmas.List.{get_or-set_same, length-map}
 use Rattle.hart_step.specs.declared.event.Put.{Put}
@@ -10,9 +10,9 @@ use Rattle.hart_step.specs.Answers.{Access}
 use Rattle.hart_step.specs.Harts.{hart_of, is_in_debug, reset_hart}
 use Rattle.hart_step.specs.Memory.{MemoryState}
 use Rattle.hart_step.specs.Step.{Answer, HartAnswer, after_store, core_after, hart_step, harts_after, memory_of, rom_after, step, stored_by, without_reservation}
+use Rattle.hart_step.specs.Events.{exception_of}
 use Rattle.hart_turns.specs.Gives.{board_after, board_gives, sent_by, board_step}
 use Rattle.hart_turns.specs.Boot.{Booting, Booted, Leads, Frees, after_boot_step, boot_hart, onward}
-use Rattle.hart_step.specs.Events.{exception_of}
 
 onward_stays : (h : ℕ) (e : Option (ℕ × ℕ)) (b : Booting) (go : Booting → Booted) → e ≡ None → is_in_debug (hart_of b.core h) ≡ true → onward h e b go ≡ go b
 onward_stays h e b go none debugs = ap (λ x. onward h x b go) none ∙ ap (λ c. cond c (go b) (record { left = b; fault = None })) debugs

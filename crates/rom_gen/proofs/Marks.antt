@@ -1,15 +1,15 @@
 -- The first part of the device block: the served marks are set by claims.
-use Rattle.std.proofs.Common.{◌==◌, Bool, true, false, cond, ◌≡◌, ℕ, ◌+◌, ◌*◌, ◌%◌, ◌<◌, ◌≤◌, List, [], ◌∷◌, length, refl, ap, ◌∙◌, arith}
 use Rattle.std.specs.Prelude.{nat_lt, slice_set}
+use Rattle.std.proofs.Common.{◌==◌, Bool, true, false, cond, ◌≡◌, ℕ, ◌+◌, ◌*◌, ◌%◌, ◌<◌, ◌≤◌, List, [], ◌∷◌, length, refl, ap, ◌∙◌, arith}
 use Rattle.std.proofs.lemmas.Bool.{lt-ltb}
 use Rattle.std.proofs.lemmas.List.{get_or-set_same, length-set}
 use Rattle.rv_alu.specs.Bits.{low_bytes}
 use Rattle.device_rows.specs.Rows.{row_at}
+use Rattle.clint.specs.State.{ClintRegisters}
 use Rattle.plic.specs.State.{IsWithinSources, PlicRegisters, context_count}
 use Rattle.plic.specs.Layout.{word_at}
 use Rattle.plic.specs.Access.{stored as plic_stored, after_load as plic_after}
 use Rattle.plic.specs.Claims.{claimed, with_served}
-use Rattle.clint.specs.State.{ClintRegisters}
 use Rattle.console.specs.State.{levels_of}
 use Rattle.console.specs.Layout.{register_at}
 use Rattle.console.specs.Access.{stored as console_stored, after_load as console_after}

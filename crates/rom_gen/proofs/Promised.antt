@@ -1,17 +1,17 @@
 -- What executing each part of the ROM does, and the laws of the registers, the devices and the whole.
-use Rattle.std.proofs.Common.{◌≡◌, ℕ, ◌+◌, ◌%◌, ◌<◌, ◌≤◌, ap, ◌∙◌, arith, subst}
 use Rattle.std.specs.Prelude.{None}
+use Rattle.std.proofs.Common.{◌≡◌, ℕ, ◌+◌, ◌%◌, ◌<◌, ◌≤◌, ap, ◌∙◌, arith, subst}
 use Rattle.board_bus.specs.Board.{BoardState, IsFit}
 use Rattle.hart_step.specs.declared.hart.Hart.{Hart}
 use Rattle.hart_step.specs.Fit.{IsWellFormed}
 use Rattle.hart_step.specs.Memory.{most_rom, rom_base}
 use Rattle.hart_turns.specs.Boot.{Booting, most_steps}
 use Rattle.rom_gen.specs.Items.{StandAt}
-use Rattle.rom_gen.proofs.Layouts.{all_csrs}
 use Rattle.rom_gen.specs.HartWants.{controls}
 use Rattle.rom_gen.specs.Rom.{device_bytes, device_items, hart_bytes, hart_items, pool_place, rom_bytes}
 use Rattle.rom_gen.specs.Executed.{IsPlace, RestoresDevices, RestoresHart}
 use Rattle.rom_gen.specs.Laws.{DevicesRestored, RegistersRestored, RomsRestore}
+use Rattle.rom_gen.proofs.Layouts.{all_csrs}
 use Rattle.rom_gen.proofs.Assembly.{rom_restores}
 use Rattle.rom_gen.proofs.Deeds.{Did}
 use Rattle.rom_gen.proofs.DeviceEnd.{devices_done, Led}

@@ -1,13 +1,13 @@
 -- Which device registers are listed, what is stored there, and that nothing is sent.
-use Rattle.std.proofs.Common.{◌≡◌, ℕ, ◌+◌, ◌*◌, ◌%◌, ◌-◌, ◌<◌, ◌≤◌, Bool, true, false, cond, List, [], refl, arith, ◌==◌, ◌&&◌}
 use Rattle.std.specs.Prelude.{nat_le, nat_lt, slice_set}
+use Rattle.std.proofs.Common.{◌≡◌, ℕ, ◌+◌, ◌*◌, ◌%◌, ◌-◌, ◌<◌, ◌≤◌, Bool, true, false, cond, List, [], refl, arith, ◌==◌, ◌&&◌}
 use Rattle.std.proofs.lemmas.Bool.{lt-ltb, lt-leb, le-leb, ne_eqb}
 use Rattle.rv_alu.specs.Bits.{low_bytes}
 use Rattle.device_rows.specs.Rows.{row_at}
-use Rattle.plic.specs.Layout.{word_at}
 use Rattle.clint.specs.Layout.{register_at as clint_register}
 use Rattle.clint.specs.State.{hart_count as clint_harts}
 use Rattle.clint.specs.Access.{stored as clint_stored}
+use Rattle.plic.specs.Layout.{word_at}
 use Rattle.console.specs.Layout.{register_at as console_register}
 use Rattle.console.specs.Access.{sent as console_sent, stored as console_stored}
 use Rattle.board_bus.specs.Board.{BoardState, sent, sent_in, stored}

@@ -1,6 +1,6 @@
 -- Writing the kept values back restores them.
-use Rattle.std.proofs.Common.{◌≡◌, ℕ, ◌+◌, refl}
 use Rattle.std.specs.Prelude.{List, [], ◌∷◌, Some}
+use Rattle.std.proofs.Common.{◌≡◌, ℕ, ◌+◌, refl}
 use Rattle.rv_alu.specs.declared.Mode.{Mode}
 use Rattle.rv_alu.specs.Modes.{level}
 use Rattle.csr_file.specs.Bits.{dcsr_fixed}

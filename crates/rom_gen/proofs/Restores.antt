@@ -1,10 +1,12 @@
 -- Booting from the ROM restores the machine.
-use Rattle.std.proofs.Common.{◌≡◌, ℕ, zero, suc, ◌+◌, ◌<◌, ◌≤◌, true, false, cond, List, [], length, refl, sym, ap, ◌∙◌, arith, subst, map, add_assoc}
 use Rattle.std.specs.Prelude.{All, None, slice_index, slice_set}
+use Rattle.std.proofs.Common.{◌≡◌, ℕ, zero, suc, ◌+◌, ◌<◌, ◌≤◌, true, false, cond, List, [], length, refl, sym, ap, ◌∙◌, arith, subst, map, add_assoc}
 use Rattle.std.proofs.Math.ListN.{get_or}
 use Rattle.std.proofs.lemmas.List.{get_or-map, get_or-set_same, get_or-set_other, length-map, length-set, same_lists}
 use Rattle.std.proofs.lemmas.List.Elements.{All-set}
 use Rattle.std.proofs.lemmas.List.Folds.{list_any_at, list_any_none}
+use Rattle.csr_file.specs.Kept.{reset_registers}
+use Rattle.csr_file.specs.declared.registers.Registers.{Registers}
 use Rattle.clint.specs.State.{hart_count}
 use Rattle.board_bus.specs.Board.{BoardState, IsFit as IsFitBoard, reset_board}
 use Rattle.hart_step.specs.declared.hart.Hart.{Hart}
@@ -12,22 +14,20 @@ use Rattle.hart_step.specs.Fit.{IsKept}
 use Rattle.hart_step.specs.Harts.{CoreState, is_in_debug, reset_hart, hart_of}
 use Rattle.hart_step.specs.Memory.{most_rom, rom_base}
 use Rattle.hart_step.specs.Step.{unreserved, unreserved_hart, memory_of}
+use Rattle.hart_step.specs.DebugReset.{debug_registers, debug_core, debug_harts, reset_debug_hart}
 use Rattle.hart_turns.specs.Machine.{MachineState, is_running, debug_machine}
 use Rattle.hart_turns.specs.Fit.{IsFit}
 use Rattle.hart_turns.specs.Boot.{Booting, Frees, Leads, boot_harts, most_steps, begins_boot}
+use Rattle.hart_turns.proofs.BootSteps.{frees_join, leads_join}
 use Rattle.rom_gen.specs.Items.{StandAt, Stands}
 use Rattle.rom_gen.specs.ItemEffects.{becomes, rom_while, moved, freed}
-use Rattle.hart_step.specs.DebugReset.{debug_registers, debug_core, debug_harts, reset_debug_hart}
 use Rattle.rom_gen.specs.Rom.{device_items, device_place, first_place, hart_bytes, hart_items, start_places, pool_place, rom_bytes, block_places, addresses}
+use Rattle.rom_gen.specs.Executed.{HasCome, HasBegun, sent_on, Stay}
 use Rattle.rom_gen.proofs.AllHarts.{all_free, at_hart, partly, partly_done, partly_later, partly_length, total}
 use Rattle.rom_gen.proofs.Dispatched.{dispatches, sent_comes}
-use Rattle.rom_gen.specs.Executed.{HasCome, HasBegun, sent_on, Stay}
 use Rattle.rom_gen.proofs.HartBlock.{IsTarget, freed_moved}
-use Rattle.hart_turns.proofs.BootSteps.{frees_join, leads_join}
 use Rattle.rom_gen.proofs.RomParts.{device_even, device_fixed, device_small, device_words, first_start, hart_fixed, hart_short, starts_length}
 use Rattle.rom_gen.proofs.Targets.{is_target}
-use Rattle.csr_file.specs.Kept.{reset_registers}
-use Rattle.csr_file.specs.declared.registers.Registers.{Registers}
 use Rattle.rom_gen.proofs.Parts.{IsStart, Parts, address_at, addresses_fit, addresses_length, parts, places_length, start_is_place}
 use Rattle.rom_gen.proofs.BlockRuns.{device_part, device_steps, hart_part, hart_steps}
 use Rattle.rom_gen.proofs.Running.{all_out, fresh_at, fresh_free, fresh_length, not_some}

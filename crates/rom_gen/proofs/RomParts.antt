@@ -1,16 +1,16 @@
 -- Where the parts of the ROM stand, and how long they are.
-use Rattle.std.proofs.Common.{◌≡◌, ◌≢◌, ℕ, zero, suc, ◌+◌, ◌*◌, ◌%◌, ◌<◌, ◌≤◌, Bool, true, false, cond, List, [], ◌∷◌, ◌++◌, length, refl, sym, ap, ◌∙◌, arith, subst, length-append, ◌==◌, eq-eqb}
-use Rattle.plic.specs.State.{context_count as contexts_of}
 use Rattle.std.specs.Prelude.{ℤ, pos, negsuc, slice_index, nat_le}
+use Rattle.std.proofs.Common.{◌≡◌, ◌≢◌, ℕ, zero, suc, ◌+◌, ◌*◌, ◌%◌, ◌<◌, ◌≤◌, Bool, true, false, cond, List, [], ◌∷◌, ◌++◌, length, refl, sym, ap, ◌∙◌, arith, subst, length-append, ◌==◌, eq-eqb}
 use Rattle.std.proofs.lemmas.Bool.{eqb-true}
 use Rattle.std.proofs.Math.ListN.{get_or}
 use Rattle.byteorder.specs.Endian.{little_bytes}
-use Rattle.rv_decode.specs.declared.Insn.{Insn}
 use Rattle.rv_alu.specs.Modes.{level}
+use Rattle.rv_decode.specs.declared.Insn.{Insn}
 use Rattle.csr_file.specs.Bits.{dcsr_fixed}
 use Rattle.csr_file.specs.Legal.{kept_slots}
 use Rattle.csr_file.specs.Numbers.{csr_dcsr, csr_dpc}
 use Rattle.clint.specs.State.{hart_count}
+use Rattle.plic.specs.State.{context_count as contexts_of}
 use Rattle.board_bus.specs.Board.{BoardState, IsFit}
 use Rattle.hart_step.specs.declared.hart.Hart.{Hart}
 use Rattle.rom_gen.specs.Items.{Put, Store, Word, Double, Spelling, StandAt, Width, all_insns, code, size_of, store_insn, word_count}

@@ -1,6 +1,6 @@
 -- How many words the wants of a list have: few, and as many wherever the pool stands.
-use Rattle.std.proofs.Common.{◌≡◌, ℕ, ◌+◌, ◌*◌, ◌≤◌, Bool, true, false, cond, List, [], ◌∷◌, ◌++◌, length, refl, ap, arith, nat_le}
 use Rattle.std.specs.Prelude.{pos}
+use Rattle.std.proofs.Common.{◌≡◌, ℕ, ◌+◌, ◌*◌, ◌≤◌, Bool, true, false, cond, List, [], ◌∷◌, ◌++◌, length, refl, ap, arith, nat_le}
 use Rattle.rv_decode.specs.declared.Insn.{Insn}
 use Rattle.rom_gen.specs.Items.{Csr, CsrImm, Put, Spelling, word_count}
 use Rattle.rom_gen.specs.Wants.{Want, Reg, Control, high_part, is_short, is_small, low_part, placed, put_insns, want_items}

@@ -1,14 +1,15 @@
 -- One step of a hart in debug mode at a word that stands in the ROM.
-use Rattle.std.proofs.Common.{◌≡◌, ℕ, ◌/◌, ◌%◌, ◌^◌, ◌<◌, true, false, cond, not, ◌&&◌, List, ◌++◌, drop, refl, sym, ap, ◌∙◌, arith, ◌==◌, subst}
 use Rattle.std.specs.Prelude.{◌||◌, bit_and, nat_le, Bool, is_some, Some, None, Ok, Err, ℤ, pos, negsuc}
+use Rattle.std.proofs.Common.{◌≡◌, ℕ, ◌/◌, ◌%◌, ◌^◌, ◌<◌, true, false, cond, not, ◌&&◌, List, ◌++◌, drop, refl, sym, ap, ◌∙◌, arith, ◌==◌, subst}
+use Rattle.std.proofs.lemmas.Bool.{and_parts, le-leb}
 use Rattle.byteorder.specs.Endian.{little_bytes}
 use Rattle.rv_alu.specs.declared.BinOp.{BinOp}
 use Rattle.rv_alu.specs.Arithmetic.{alu_of, modulo}
+use Rattle.rv_alu.specs.declared.Mode.{Mode}
 use Rattle.rv_decode.specs.declared.Insn.{Insn}
 use Rattle.rv_decode.specs.Encode.{encoded}
 use Rattle.rv_decode.specs.Ranges.{IsInRange, IsSigned}
 use Rattle.rv_decode.proofs.Encoded.{encoded_is_decoded_lem}
-use Rattle.rv_alu.specs.declared.Mode.{Mode}
 use Rattle.csr_file.specs.Access.{allows, may_access}
 use Rattle.csr_file.specs.Bits.{mstatus_tvm}
 use Rattle.csr_file.specs.Numbers.{csr_satp, is_debug_number, is_user_counter, is_listed, is_read_only}
@@ -21,12 +22,11 @@ use Rattle.hart_step.specs.Memory.{exception, MemoryState}
 use Rattle.hart_step.specs.Effects.{Effect, effect, pc_after, shows_write, with_memory, with_write, writes}
 use Rattle.hart_step.specs.Shown.{Done}
 use Rattle.hart_step.specs.Step.{HartAnswer, commits, from_decoded, from_fetched, from_interrupt, hart_step, retired, shows, stored_by}
-use Rattle.rom_gen.proofs.Fetch.{rom_fetched}
-use Rattle.std.proofs.lemmas.Bool.{and_parts, le-leb}
-use Rattle.rom_gen.proofs.Joins.{Does}
 use Rattle.hart_step.specs.Events.{exception_of}
-use Rattle.rom_gen.proofs.WordForms.{IsWord, word_r_fits, modulo_12}
 use Rattle.rom_gen.specs.Items.{is_writable, Stands}
+use Rattle.rom_gen.proofs.Fetch.{rom_fetched}
+use Rattle.rom_gen.proofs.Joins.{Does}
+use Rattle.rom_gen.proofs.WordForms.{IsWord, word_r_fits, modulo_12}
 
 -- the step at an instruction's word is the instruction's effect
 pub at_word : (given : Given) (n h : ℕ) (hart : Hart) (memory : MemoryState) (p : ℕ) (rest : List ℕ) (insn : Insn) → Stands memory hart p → given.interrupt ≡ None →

@@ -1,6 +1,6 @@
 -- The wants of a well-formed hart are good.
-use Rattle.std.proofs.Common.{◌≡◌, ℕ, zero, suc, ◌+◌, ◌%◌, ◌^◌, ◌<◌, ◌≤◌, Bool, true, ◌&&◌, List, [], ◌∷◌, ◌++◌, length, refl, ◌∙◌, arith, nat_lt, lit≤}
 use Rattle.std.specs.Prelude.{All, None}
+use Rattle.std.proofs.Common.{◌≡◌, ℕ, zero, suc, ◌+◌, ◌%◌, ◌^◌, ◌<◌, ◌≤◌, Bool, true, ◌&&◌, List, [], ◌∷◌, ◌++◌, length, refl, ◌∙◌, arith, nat_lt, lit≤}
 use Rattle.std.proofs.lemmas.Bool.{and_parts, ltb-true}
 use Rattle.std.proofs.lemmas.Nat.Bits.{and_high_mask}
 use Rattle.rv_alu.specs.Modes.{level}
@@ -12,9 +12,9 @@ use Rattle.csr_file.specs.Numbers.{csr_dcsr, csr_dpc, is_listed}
 use Rattle.csr_file.specs.declared.registers.Registers.{Registers}
 use Rattle.csr_file.proofs.FitLaws.{IsFit-slots}
 use Rattle.csr_file.proofs.LegalLaws.{legal-below}
-use Rattle.rom_gen.specs.Items.{is_writable}
 use Rattle.hart_step.specs.declared.hart.Hart.{Hart}
 use Rattle.hart_step.specs.Fit.{IsWellFormed}
+use Rattle.rom_gen.specs.Items.{is_writable}
 use Rattle.rom_gen.specs.HartWants.{controls, numbered, registers, slot_wants}
 use Rattle.rom_gen.specs.Wants.{Want, Reg, Control}
 use Rattle.rom_gen.proofs.Layouts.{AllGood, AllKeep}

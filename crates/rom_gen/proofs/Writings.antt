@@ -1,25 +1,25 @@
 -- One want after another is written.
-use Rattle.std.proofs.Common.{◌≡◌, ℕ, zero, suc, ◌+◌, ◌*◌, ◌/◌, ◌<◌, ◌≤◌, List, [], ◌∷◌, ◌++◌, length, take, refl, sym, ap, ◌∙◌, arith, subst, append_assoc, length-append}
 use Rattle.std.specs.Prelude.{slice_index, map, All, IsTrue, Bool, true, ◌&&◌}
+use Rattle.std.proofs.Common.{◌≡◌, ℕ, zero, suc, ◌+◌, ◌*◌, ◌/◌, ◌<◌, ◌≤◌, List, [], ◌∷◌, ◌++◌, length, take, refl, sym, ap, ◌∙◌, arith, subst, append_assoc, length-append}
 use Rattle.std.proofs.lemmas.Bool.{and_parts}
+use Rattle.std.proofs.lemmas.List.{append-nil, take_more}
+use Rattle.byteorder.specs.Endian.{little_bytes}
 use Rattle.rv_alu.specs.Modes.{level}
+use Rattle.rv_decode.specs.declared.Insn.{Insn}
+use Rattle.rv_decode.specs.Encode.{encoded}
 use Rattle.csr_file.specs.Bits.{dcsr_fixed}
 use Rattle.csr_file.specs.Numbers.{csr_dcsr, csr_dpc}
-use Rattle.hart_step.specs.declared.hart.Hart.{Hart}
-use Rattle.rom_gen.specs.Rom.{block_bytes, block_words, hart_bytes, hart_items, hart_values, padding, pool_place, rounded}
-use Rattle.std.proofs.lemmas.List.{append-nil, take_more}
-use Rattle.rv_decode.specs.declared.Insn.{Insn}
 use Rattle.csr_file.specs.Kept.{kept_value}
 use Rattle.csr_file.specs.Legal.{Slot, kept_slots}
 use Rattle.csr_file.specs.declared.registers.Registers.{Registers}
-use Rattle.byteorder.specs.Endian.{little_bytes}
-use Rattle.rv_decode.specs.Encode.{encoded}
+use Rattle.hart_step.specs.declared.hart.Hart.{Hart}
+use Rattle.rom_gen.specs.Rom.{block_bytes, block_words, hart_bytes, hart_items, hart_values, padding, pool_place, rounded}
 use Rattle.rom_gen.specs.Items.{Spelling, all_insns, code, word_count}
-use Rattle.rom_gen.proofs.HartBlock.{insns_count}
 use Rattle.rom_gen.specs.HartWants.{first_wants, numbered, slot_wants, number_of}
 use Rattle.rom_gen.specs.Wants.{Want, Reg, Control, all_values, placed, pool, put_insns, want_items, want_values, put_values}
 use Rattle.rom_gen.specs.Writing.{Adds, Wrote, number_wants, offset_of}
 use Rattle.rom_gen.specs.declared.writer.Writer.{Writer}
+use Rattle.rom_gen.proofs.HartBlock.{insns_count}
 use Rattle.rom_gen.proofs.ItemSteps.{code_append, code_length}
 use Rattle.rom_gen.proofs.Placed.{placed_append, pool_append, pool_length}
 use Rattle.rom_gen.proofs.RomParts.{hart_fixed, hart_short, one_value}

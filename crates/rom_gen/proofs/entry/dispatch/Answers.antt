@@ -1,5 +1,5 @@
-use Rattle.std.proofs.Common.{◌++◌, ◌^◌, ◌<◌, ap, ◌∙◌, arith, sym, subst}
 use Rattle.std.specs.Prelude.{All}
+use Rattle.std.proofs.Common.{◌++◌, ◌^◌, ◌<◌, ap, ◌∙◌, arith, sym, subst}
 use Rattle.std.proofs.lemmas.List.Elements.{All-from_get_or}
 use Rattle.rom_gen.specs.Items.{code}
 use Rattle.rom_gen.specs.Rom.{dispatch_bytes, dispatch_insns, table}

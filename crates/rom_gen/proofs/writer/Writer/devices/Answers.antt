@@ -1,9 +1,9 @@
-use Rattle.std.proofs.Common.{◌≡◌, ◌*◌, ℕ, [], sym, ap, ◌∙◌, subst}
 use Rattle.std.specs.Prelude.{pos, negsuc, slice_index}
+use Rattle.std.proofs.Common.{◌≡◌, ◌*◌, ℕ, [], sym, ap, ◌∙◌, subst}
 use Rattle.std.proofs.lemmas.Result.{on_ok_weaker}
 use Rattle.clint.specs.State.{ClintRegisters}
-use Rattle.console.specs.State.{ConsoleRegisters}
 use Rattle.plic.specs.State.{PlicRegisters, context_count}
+use Rattle.console.specs.State.{ConsoleRegisters}
 use Rattle.board_bus.specs.Board.{BoardState}
 use Rattle.rom_gen.specs.Items.{Word, Double}
 use Rattle.rom_gen.specs.DeviceBlock.{compare_deeds, context_deeds, marks_deeds, queue_deeds, soft_deeds}

@@ -1,5 +1,5 @@
-use Rattle.std.proofs.Common.{subst}
 use Rattle.std.specs.Prelude.{pos}
+use Rattle.std.proofs.Common.{subst}
 use Rattle.std.proofs.lemmas.Result.{on_ok_weaker}
 use Rattle.rom_gen.specs.Items.{Word, all_insns}
 use Rattle.rom_gen.specs.Deeds.{Save, deed_items, deed_values}

@@ -1,5 +1,5 @@
-use Rattle.std.proofs.Common.{◌+◌, ℕ, ap, ◌∙◌, arith}
 use Rattle.std.specs.Prelude.{slice_index}
+use Rattle.std.proofs.Common.{◌+◌, ℕ, ap, ◌∙◌, arith}
 use Rattle.rom_gen.specs.HartWants.{numbered}
 use Rattle.rom_gen.specs.Wants.{put_insns, put_values}
 use Rattle.rom_gen.specs.Writing.{offset_of}

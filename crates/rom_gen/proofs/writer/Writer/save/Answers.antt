@@ -1,8 +1,8 @@
 use Rattle.std.proofs.Common.{ap, ◌∙◌}
 use Rattle.std.proofs.Math.Facts.{to_z-of_z}
+use Rattle.std.proofs.lemmas.Result.{on_ok_weaker}
 use Rattle.rv_decode.specs.Encode.{encoded}
 use Rattle.rom_gen.specs.Items.{store_insn}
-use Rattle.std.proofs.lemmas.Result.{on_ok_weaker}
 use Rattle.rom_gen.proofs.Dealings.{save_adds}
 use Rattle.rom_gen.proofs.writer.Writer.save.Goals as goal
 

@@ -1,5 +1,5 @@
-use Rattle.std.proofs.Common.{ℕ, arith, subst}
 use Rattle.std.specs.Prelude.{slice_index}
+use Rattle.std.proofs.Common.{ℕ, arith, subst}
 use Rattle.csr_file.specs.Kept.{kept_value}
 use Rattle.rom_gen.specs.Items.{all_insns}
 use Rattle.rom_gen.specs.Wants.{Control, want_items, want_values}
