@@ -34,7 +34,7 @@ export ARCH=riscv CROSS_COMPILE=riscv64-linux-gnu- KBUILD_BUILD_TIMESTAMP='1 Jan
 export KBUILD_BUILD_USER=dromajo KBUILD_BUILD_HOST=example
 cd "$work/linux-source-6.1"
 make -s O="$work/kernel" tinyconfig
-scripts/kconfig/merge_config.sh -m -O "$work/kernel" "$work/kernel/.config" "$here/kernel.config" > "$work/merged"
+scripts/kconfig/merge_config.sh -m -O "$work/kernel" "$work/kernel/.config" "$here/kernel.config" > /dev/null
 make -s O="$work/kernel" olddefconfig
 { grep -E '^(# )?CONFIG_' "$here/kernel.config" || true; } | while read -r line; do
     name=${line#\# }

@@ -34,7 +34,7 @@ echo "host window at $TOHOST"
 
 cp "$payload" "$work/payload.bin"
 riscv64-unknown-elf-cpp -nostdinc -undef -P -x assembler-with-cpp -D "HARTS=$harts" "$here/board.dts" "$work/board.dts"
-dtc -q -I dts -O dtb -o "$work/board.dtb" "$work/board.dts"
+dtc -I dts -O dtb -o "$work/board.dtb" "$work/board.dts"
 riscv64-unknown-elf-as -march=rv64imac_zicsr -mabi=lp64 -I "$work" -I "$generic" -o "$work/entry.o" "$here/entry.s"
 riscv64-unknown-elf-ld -n --no-relax --no-warn-rwx-segments --defsym="tohost=$TOHOST" -T "$here/board.ld" \
     -o "$out" "$work/entry.o"
