@@ -23,15 +23,20 @@ if [ ! "$work/unpacked" -nt "$packed" ]; then
     touch "$work/unpacked"
 fi
 
-# The program. Nothing sets its global pointer, so the linker may make no address relative to it.
+# Nothing in the kernel tells when and by whom it was built, so that its bytes depend on the packages alone.
+export ARCH=riscv CROSS_COMPILE=riscv64-linux-gnu- KBUILD_BUILD_TIMESTAMP='Mon Jan 1 00:00:00 UTC 2024'
+export KBUILD_BUILD_VERSION=1 KBUILD_BUILD_USER=dromajo KBUILD_BUILD_HOST=example
+
+# The program. Nothing sets its global pointer, so the linker may make no address relative to it. Its time goes into the
+# initramfs, which is made anew.
 mkdir -p "$work/kernel"
 riscv64-linux-gnu-gcc -O2 -Wall -Wextra -march=rv64imac -mabi=lp64 -ffreestanding -fno-stack-protector -fno-pie -no-pie \
     -nostdlib -static -Wl,--no-relax,--build-id=none -o "$work/kernel/init.elf" init.c
+touch -d "$KBUILD_BUILD_TIMESTAMP" "$work/kernel/init.elf"
 cp initramfs.list "$work/kernel"
+rm -f "$work/kernel/usr/initramfs_data.cpio"
 
-# The kernel, with nothing in it of when and by whom it was built.
-export ARCH=riscv CROSS_COMPILE=riscv64-linux-gnu- KBUILD_BUILD_TIMESTAMP='1 January 2024' KBUILD_BUILD_VERSION=1
-export KBUILD_BUILD_USER=dromajo KBUILD_BUILD_HOST=example
+# The kernel.
 cd "$work/linux-source-6.1"
 make -s O="$work/kernel" tinyconfig
 scripts/kconfig/merge_config.sh -m -O "$work/kernel" "$work/kernel/.config" "$here/kernel.config" > /dev/null
