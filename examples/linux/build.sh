@@ -8,6 +8,7 @@
 # The sources (1.3 GB) and what is compiled of them stay in the folder WORK, by default ~/.cache/dromajo-linux.
 # Where the simulator is built, or $DROMAJO names one, it is run and its console compared.
 set -eu
+program=$(realpath -m "${DROMAJO:-$(dirname "$0")/../../crates/dromajo/out/dromajo}")
 work=${1:-${XDG_CACHE_HOME:-$HOME/.cache}/dromajo-linux}
 mkdir -p "$work"
 work=$(cd "$work" && pwd)
@@ -41,7 +42,7 @@ cd "$work/linux-source-6.1"
 make -s O="$work/kernel" tinyconfig
 scripts/kconfig/merge_config.sh -m -O "$work/kernel" "$work/kernel/.config" "$here/kernel.config" > /dev/null
 make -s O="$work/kernel" olddefconfig
-{ grep -E '^(# )?CONFIG_' "$here/kernel.config" || true; } | while read -r line; do
+grep -E '^(# )?CONFIG_' "$here/kernel.config" | while read -r line; do
     name=${line#\# }
     name=${name%%[= ]*}
     case $line in
@@ -54,7 +55,6 @@ cd "$here"
 cp "$work/kernel/arch/riscv/boot/Image" out/Image
 ../opensbi/board.sh out/Image 4 out/linux.elf
 
-program=${DROMAJO:-../../crates/dromajo/out/dromajo}
 if [ -x "$program" ]; then
     "$program" run --config linux.json --turns 1000000 < /dev/null > out/console
     ./told.sh < out/console | cmp - linux.out

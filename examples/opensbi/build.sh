@@ -5,6 +5,7 @@
 #
 # Where the simulator is built, or $DROMAJO names one, it is run and its console compared.
 set -eu
+program=$(realpath -m "${DROMAJO:-$(dirname "$0")/../../crates/dromajo/out/dromajo}")
 cd "$(dirname "$0")"
 work=$(mktemp -d)
 trap 'rm -rf "$work"' EXIT
@@ -16,7 +17,6 @@ riscv64-unknown-elf-gcc -O2 -Wall -Wextra -march=rv64imac -mabi=lp64 -mcmodel=me
 riscv64-unknown-elf-objcopy -O binary "$work/program.elf" "$work/program.bin"
 ./board.sh "$work/program.bin" 2 out/opensbi.elf
 
-program=${DROMAJO:-../../crates/dromajo/out/dromajo}
 if [ -x "$program" ]; then
     "$program" run --config opensbi.json --turns 100000 < /dev/null > "$work/console"
     cmp "$work/console" opensbi.out

@@ -6,7 +6,7 @@ struct answer {
     long error, value;
 };
 
-/* Extensions, as calls name them: two of the first version, and then by letters. */
+/* The numbers of the extensions that are called. */
 enum { PUT_BYTE = 1, BASE = 0x10, HART_STATE = 0x48534d, SYSTEM_RESET = 0x53525354 };
 
 static struct answer call(long extension, long function, long a, long b, long c)
