@@ -1,4 +1,5 @@
-// The single accesses of the block of the devices.
+// The single accesses of the block of the devices. The address that is reached stands in no word, so the
+// clauses here have 0 in its place.
 
 ghost use Rattle.std.specs.Prelude.{◌≡◌, ◌+◌, ◌^◌, ◌<◌, ◌≤◌, ◌∷◌, [], OnOk, pos};
 ghost use Rattle.rv_decode.specs.Ranges.{IsSigned};
@@ -36,7 +37,7 @@ impl Writer {
         }
     }
 
-    /// What x6 has goes to a device register.
+    /// What x6 has, the value `v`, goes to a device register.
     pub(crate) fn again(&mut self, width: Width, v: u64, by: u32, off: i64) -> Result<(), NoMemory>
         requires by { by < 32 }
         requires off { IsSigned 12 off }
@@ -54,7 +55,7 @@ impl Writer {
         self.push(load(width, 6, by, off))
     }
 
-    /// The same at an offset that is not negative.
+    /// A value goes to a device register at an offset that is not negative.
     pub(crate) fn save_up(
         &mut self,
         width: Width,
