@@ -16,7 +16,7 @@ use Rattle.hart_step.specs.declared.hart.Hart.{Hart}
 use Rattle.hart_step.specs.declared.access.Extension.{Extension}
 use Rattle.hart_step.specs.Answers.{Access, Given, Loads}
 use Rattle.hart_step.specs.Effects as effects
-use Rattle.hart_step.specs.Effects.{Effect, CsrEffect, raises, goes_on, at_pc, writes, with_write, pc_after, gives, computes, computes_immediate, computes_shift, multiplies, jumps, branches, passes, illegal, gives_loaded, loads, loads_at, stores, stores_at, stores_from, stores_in, reserves, reserves_from, stores_if, conditional_from, stores_conditionally, has_reserved, updates, updates_from, updates_at, accesses, given_word, with_csr, with_memory, writes_csr, sets_csr, clears_csr}
+use Rattle.hart_step.specs.Effects.{Effect, CsrEffect, raises, goes_on, at_pc, writes, with_write, pc_after, gives_loaded, loads, stores, stores_from, reserves, reserves_from, stores_if, conditional_from, stores_conditionally, has_reserved, updates, updates_from, updates_at, with_csr, with_memory, writes_csr, sets_csr, clears_csr}
 use Rattle.hart_step.specs.Harts.{register, shown_register}
 use Rattle.hart_step.specs.Memory.{Exception, Loaded, MemoryState, data_address, exception, from_device, from_memory, loaded, loaded_from, ram_address}
 use Rattle.hart_step.specs.Shown.{Done}
@@ -115,22 +115,23 @@ fresh_follows r hart rd value next memory shown access = record {
   covers = subst (λ (own : Option ℕ). Covers r own) (sym (write_keeps (reserved r hart) rd value next)) (covers_itself r);
 }
 
-sc_cases : (r : Option ℕ) (hart : Hart) (memory : MemoryState) (size value len rd at : ℕ) (own other : Bool) → (own ≡ true → other ≡ true) → Follows (stores_if (other && (told_shown (stores_if (own && true) size value len rd at hart memory).shown).may_win) size value len rd at (reserved r hart) memory) (stores_if (own && true) size value len rd at hart memory)
-sc_cases r hart memory size value len rd at true other covers =
+sc_cases : (r : Option ℕ) (hart : Hart) (memory : MemoryState) (size value len rd at : ℕ) (own other wins : Bool) → (own ≡ true → other ≡ true) → Follows (stores_if (other && (told_shown (stores_if (own && wins) size value len rd at hart memory).shown).may_win) size value len rd at (reserved r hart) memory) (stores_if (own && wins) size value len rd at hart memory)
+sc_cases r hart memory size value len rd at true other true covers =
     subst (λ (b : Bool). Follows (stores_if (b && true) size value len rd at (reserved r hart) memory) (stores_if true size value len rd at hart memory)) (sym (covers refl))
     (fresh_follows None hart rd 0 (pc_after hart len) _ _ _)
-sc_cases r hart memory size value len rd at false true covers = fresh_follows None hart rd 1 (pc_after hart len) _ _ _
-sc_cases r hart memory size value len rd at false false covers = fresh_follows None hart rd 1 (pc_after hart len) _ _ _
+sc_cases r hart memory size value len rd at true true false covers = fresh_follows None hart rd 1 (pc_after hart len) _ _ _
+sc_cases r hart memory size value len rd at true false false covers = fresh_follows None hart rd 1 (pc_after hart len) _ _ _
+sc_cases r hart memory size value len rd at false true wins covers = fresh_follows None hart rd 1 (pc_after hart len) _ _ _
+sc_cases r hart memory size value len rd at false false wins covers = fresh_follows None hart rd 1 (pc_after hart len) _ _ _
 
-conditional_cases : (given : Given) (r : Option ℕ) (hart : Hart) (memory : MemoryState) → Covers r hart.reservation → given.may_win ≡ true → (size value len rd : ℕ) (a : Result ℕ Exception) → Follows (conditional_from (told_shown (conditional_from given size value len rd a hart memory).shown) size value len rd a (reserved r hart) memory) (conditional_from given size value len rd a hart memory)
-conditional_cases given r hart memory covers wins size value len rd (Err e) = raises_follow r hart memory covers e
-conditional_cases given r hart memory covers wins size value len rd (Ok at) =
-    subst (λ (b : Bool). Follows (stores_if (has_reserved r at && (told_shown (stores_if (has_reserved hart.reservation at && b) size value len rd at hart memory).shown).may_win) size value len rd at (reserved r hart) memory) (stores_if (has_reserved hart.reservation at && b) size value len rd at hart memory)) (sym wins)
-    (sc_cases r hart memory size value len rd at (has_reserved hart.reservation at) (has_reserved r at) (has_covered r hart.reservation at covers))
+conditional_cases : (given : Given) (r : Option ℕ) (hart : Hart) (memory : MemoryState) → Covers r hart.reservation → (size value len rd : ℕ) (a : Result ℕ Exception) → Follows (conditional_from (told_shown (conditional_from given size value len rd a hart memory).shown) size value len rd a (reserved r hart) memory) (conditional_from given size value len rd a hart memory)
+conditional_cases given r hart memory covers size value len rd (Err e) = raises_follow r hart memory covers e
+conditional_cases given r hart memory covers size value len rd (Ok at) =
+    sc_cases r hart memory size value len rd at (has_reserved hart.reservation at) (has_reserved r at) given.may_win (has_covered r hart.reservation at covers)
 
-pub conditional_follows : (given : Given) (r : Option ℕ) (hart : Hart) (memory : MemoryState) → Covers r hart.reservation → given.may_win ≡ true → (size len rd rs1 rs2 : ℕ) → Follows (stores_conditionally (told_shown (stores_conditionally given size len rd rs1 rs2 hart memory).shown) size len rd rs1 rs2 (reserved r hart) memory) (stores_conditionally given size len rd rs1 rs2 hart memory)
-conditional_follows given r hart memory covers wins size len rd rs1 rs2 =
-    conditional_cases given r hart memory covers wins size (register hart rs2) len rd (ram_address Kind.Store size hart memory.ram (register hart rs1))
+pub conditional_follows : (given : Given) (r : Option ℕ) (hart : Hart) (memory : MemoryState) → Covers r hart.reservation → (size len rd rs1 rs2 : ℕ) → Follows (stores_conditionally (told_shown (stores_conditionally given size len rd rs1 rs2 hart memory).shown) size len rd rs1 rs2 (reserved r hart) memory) (stores_conditionally given size len rd rs1 rs2 hart memory)
+conditional_follows given r hart memory covers size len rd rs1 rs2 =
+    conditional_cases given r hart memory covers size (register hart rs2) len rd (ram_address Kind.Store size hart memory.ram (register hart rs1))
 
 reserves_cases : (r : Option ℕ) (hart : Hart) (memory : MemoryState) → Covers r hart.reservation → (size len rd : ℕ) (a : Result ℕ Exception) → Follows (reserves_from size len rd a (reserved r hart) memory) (reserves_from size len rd a hart memory)
 reserves_cases r hart memory covers size len rd (Err e) = raises_follow r hart memory covers e

@@ -64,39 +64,39 @@ no_interrupt_told : (s : Result Done Exception) → (told_shown s).interrupt ≡
 no_interrupt_told (Ok done) = refl
 no_interrupt_told (Err x) = refl
 
-decoded_follows : (given : Given) (n len word : ℕ) (hart : Hart) (memory : MemoryState) (r : Option ℕ) → Covers r hart.reservation → IsAllowed hart given → given.may_win ≡ true → (d : Option Insn) → Follows (from_decoded (told_shown (from_decoded given n len word hart memory d).shown) n len word (reserved r hart) memory d) (from_decoded given n len word hart memory d)
-decoded_follows given n len word hart memory r covers allowed wins None = raises_follow r hart memory covers (exception 2 word)
-decoded_follows given n len word hart memory r covers allowed wins (Some insn) = effect_follows given n len word insn hart memory r covers allowed wins
+decoded_follows : (given : Given) (n len word : ℕ) (hart : Hart) (memory : MemoryState) (r : Option ℕ) → Covers r hart.reservation → IsAllowed hart given → (d : Option Insn) → Follows (from_decoded (told_shown (from_decoded given n len word hart memory d).shown) n len word (reserved r hart) memory d) (from_decoded given n len word hart memory d)
+decoded_follows given n len word hart memory r covers allowed None = raises_follow r hart memory covers (exception 2 word)
+decoded_follows given n len word hart memory r covers allowed (Some insn) = effect_follows given n len word insn hart memory r covers allowed
 
 -- a step that is told of no interrupt
 record Told (mine : Given → HartAnswer) (theirs : HartAnswer) : Type 0 where
   none : (told_by theirs.event).interrupt ≡ None
   alike : Alike (mine (told_by theirs.event)) theirs
 
-fetched_told : (given : Given) (n h : ℕ) (hart : Hart) (memory : MemoryState) (r : Option ℕ) → Covers r hart.reservation → IsAllowed hart given → given.may_win ≡ true → (f : Result Fetched Exception) → Told (λ g. from_fetched g n h (reserved r hart) memory f) (from_fetched given n h hart memory f)
-fetched_told given n h hart memory r covers allowed wins (Err e) = record {
+fetched_told : (given : Given) (n h : ℕ) (hart : Hart) (memory : MemoryState) (r : Option ℕ) → Covers r hart.reservation → IsAllowed hart given → (f : Result Fetched Exception) → Told (λ g. from_fetched g n h (reserved r hart) memory f) (from_fetched given n h hart memory f)
+fetched_told given n h hart memory r covers allowed (Err e) = record {
   none = refl;
   alike = shows_alike h hart r 0 (raises e (reserved r hart) memory) (raises e hart memory) (raises_follow r hart memory covers e);
 }
-fetched_told given n h hart memory r covers allowed wins (Ok f) =
+fetched_told given n h hart memory r covers allowed (Ok f) =
     let e : Effect = from_decoded given n f.len f.word hart memory (decoded f.word f.len) in
     let is : told_by (shows h hart f.word e).event ≡ told_shown e.shown = told_is h hart f.word e e.shown in
     record {
       none = ap (λ (g : Given). g.interrupt) is ∙ no_interrupt_told e.shown;
       alike = subst (λ (g : Given). Alike (shows h (reserved r hart) f.word (from_decoded g n f.len f.word (reserved r hart) memory (decoded f.word f.len))) (shows h hart f.word e)) (sym is)
-          (shows_alike h hart r f.word _ e (decoded_follows given n f.len f.word hart memory r covers allowed wins (decoded f.word f.len)));
+          (shows_alike h hart r f.word _ e (decoded_follows given n f.len f.word hart memory r covers allowed (decoded f.word f.len)));
     }
 
-interrupt_alike : (given : Given) (n h : ℕ) (hart : Hart) (memory : MemoryState) (r : Option ℕ) → Covers r hart.reservation → IsAllowed hart given → given.may_win ≡ true → (i : Option ℕ) → Alike (from_interrupt (told_by (from_interrupt given n h hart memory i).event) n h (reserved r hart) memory (told_by (from_interrupt given n h hart memory i).event).interrupt) (from_interrupt given n h hart memory i)
-interrupt_alike given n h hart memory r covers allowed wins (Some cause) = record { reservation = r; is = refl; covers = covers }
-interrupt_alike given n h hart memory r covers allowed wins None =
-    let told = fetched_told given n h hart memory r covers allowed wins (fetched hart memory) in
+interrupt_alike : (given : Given) (n h : ℕ) (hart : Hart) (memory : MemoryState) (r : Option ℕ) → Covers r hart.reservation → IsAllowed hart given → (i : Option ℕ) → Alike (from_interrupt (told_by (from_interrupt given n h hart memory i).event) n h (reserved r hart) memory (told_by (from_interrupt given n h hart memory i).event).interrupt) (from_interrupt given n h hart memory i)
+interrupt_alike given n h hart memory r covers allowed (Some cause) = record { reservation = r; is = refl; covers = covers }
+interrupt_alike given n h hart memory r covers allowed None =
+    let told = fetched_told given n h hart memory r covers allowed (fetched hart memory) in
     let a : HartAnswer = from_fetched given n h hart memory (fetched hart memory) in
     subst (λ (i : Option ℕ). Alike (from_interrupt (told_by a.event) n h (reserved r hart) memory i) a) (sym told.none) told.alike
 
-hart_alike : (given : Given) (n h : ℕ) (hart : Hart) (memory : MemoryState) (r : Option ℕ) → Covers r hart.reservation → IsAllowed hart given → given.may_win ≡ true → Alike (hart_step (told_by (hart_step given n h hart memory).event) n h (reserved r hart) memory) (hart_step given n h hart memory)
+hart_alike : (given : Given) (n h : ℕ) (hart : Hart) (memory : MemoryState) (r : Option ℕ) → Covers r hart.reservation → IsAllowed hart given → Alike (hart_step (told_by (hart_step given n h hart memory).event) n h (reserved r hart) memory) (hart_step given n h hart memory)
 unfolding hart_step
-hart_alike given n h hart memory r covers allowed wins = interrupt_alike given n h hart memory r covers allowed wins given.interrupt
+hart_alike given n h hart memory r covers allowed = interrupt_alike given n h hart memory r covers allowed given.interrupt
 
 -- ---- a core
 
@@ -118,12 +118,12 @@ core_alike core other h r a b covers alike =
 
 pub steps_follow_lem : StepsFollow
 unfolding step
-steps_follow_lem given core other h within covers allowed wins =
+steps_follow_lem given core other h within covers allowed =
     let hart : Hart = hart_of core h in
     let mine : CoversHart (hart_of other h) hart = at_covers other.harts core.harts h (reset_hart 0 0) covers.harts in
     let r : Option ℕ = (hart_of other h).reservation in
     let a : HartAnswer = hart_step given (length core.harts) h hart (memory_of core) in
-    let alike = hart_alike given (length core.harts) h hart (memory_of core) r mine.covers allowed wins in
+    let alike = hart_alike given (length core.harts) h hart (memory_of core) r mine.covers allowed in
     let same = core_alike core other h r a (hart_step (told_by a.event) (length core.harts) h (reserved r hart) (memory_of core)) covers alike in
     let at_count = subst (λ (n : ℕ). StepFollows (core_after other h (reserved r hart) (hart_step (told_by a.event) n h (reserved r hart) (memory_of core))) (core_after core h hart a)) (sym (count_covers other.harts core.harts covers.harts)) same in
     let at_ram = subst (λ (ram : List ℕ). StepFollows (core_after other h (reserved r hart) (hart_step (told_by a.event) (length other.harts) h (reserved r hart) (record { ram = ram; rom = core.rom }))) (core_after core h hart a)) (sym covers.ram) at_count in

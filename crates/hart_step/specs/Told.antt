@@ -1,7 +1,7 @@
 -- A step that is told what another step showed: what the record of a step tells whoever makes the step again, and the
 -- laws that it then does the same. A hart that makes it again may have a reservation where the other had none, as the
 -- judged core has after a checkpoint which dropped them.
-use Rattle.std.specs.Prelude.{◌≡◌, ℕ, ◌<◌, Bool, false, List, [], ◌∷◌, length, true, Option, Some, None, Result, Ok, Err, is_some, unwrap_or, bit_and}
+use Rattle.std.specs.Prelude.{◌≡◌, ℕ, ◌<◌, Bool, false, List, [], ◌∷◌, length, Option, Some, None, Result, Ok, Err, is_some, unwrap_or, bit_and}
 use Rattle.rv_alu.specs.Bits.{low_bytes}
 use Rattle.rv_decode.specs.declared.Insn.{Insn}
 use Rattle.csr_file.specs.View.{volatile_bits}
@@ -85,7 +85,10 @@ pub record Follows (mine theirs : Effect) : Type 0 where
 -- an instruction that is told what another carrying out of it showed does the same, on a hart whose reservation covers
 -- that one's
 abbrev pub EffectsFollow : Type 0
-EffectsFollow = (given : Given) (n len word : ℕ) (insn : Insn) (hart : Hart) (memory : MemoryState) (r : Option ℕ) → Covers r hart.reservation → IsAllowed hart given → given.may_win ≡ true → Follows (effect (told_shown (effect given n len word insn hart memory).shown) n len word insn (reserved r hart) memory) (effect given n len word insn hart memory)
+EffectsFollow = (given : Given) (n len word : ℕ) (insn : Insn) (hart : Hart) (memory : MemoryState) (r : Option ℕ) →
+    Covers r hart.reservation → IsAllowed hart given →
+    Follows (effect (told_shown (effect given n len word insn hart memory).shown) n len word insn (reserved r hart) memory)
+    (effect given n len word insn hart memory)
 
 -- the first step shows what the second one shows, and leaves a core that covers that one's
 pub record StepFollows (mine theirs : Answer) : Type 0 where
@@ -94,4 +97,6 @@ pub record StepFollows (mine theirs : Answer) : Type 0 where
 
 -- so does a step that is told what another one showed
 abbrev pub StepsFollow : Type 0
-StepsFollow = (given : Given) (core other : CoreState) (h : ℕ) → h < length core.harts → CoversCore other core → IsAllowed (hart_of core h) given → given.may_win ≡ true → StepFollows (step (told_by (step given core h).event) other h) (step given core h)
+StepsFollow = (given : Given) (core other : CoreState) (h : ℕ) →
+    h < length core.harts → CoversCore other core → IsAllowed (hart_of core h) given →
+    StepFollows (step (told_by (step given core h).event) other h) (step given core h)

@@ -59,7 +59,7 @@ one_passes tohost h p other within covers =
     let given : Given = board_gives p.board h (hart_of p.core h) in
     let a : Answer = step given p.core h in
     let ok : allowed.IsAllowed (hart_of p.core h) given = board_is_allowed_lem p.board h (hart_of p.core h) in
-    let follows : StepFollows (step (told_by a.event) other h) a = steps_follow_lem given p.core other h within covers ok refl in
+    let follows : StepFollows (step (told_by a.event) other h) a = steps_follow_lem given p.core other h within covers ok in
     let many : length other.harts ≡ length p.core.harts = count_covers other.harts p.core.harts covers.harts in
     let moved : Moves tohost other h a.event = moves tohost other h given (hart_of p.core h) a.event (subst (λ (k : ℕ). h < k) (sym many) within) (at_covers other.harts p.core.harts h (reset_hart 0 0) covers.harts) ok follows.event (event_kind given p.core h) in
     record {
