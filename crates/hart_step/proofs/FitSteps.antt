@@ -8,19 +8,21 @@ use Rattle.byteorder.specs.Endian.{little_bytes}
 use Rattle.guest_ram.proofs.PartLemmas.{length-with_part}
 use Rattle.rv_decode.specs.declared.Insn.{Insn}
 use Rattle.csr_file.specs.declared.registers.Registers.{Registers}
-use Rattle.csr_file.proofs.FitLaws.{reset_registers-fit}
+use Rattle.csr_file.proofs.FitLaws.{reset_in_debug-fit, reset_registers-fit}
 use Rattle.trap_rules.specs.declared.Cause.{Cause}
 use Rattle.hart_step.specs.declared.event.Put.{Put}
 use Rattle.hart_step.specs.declared.hart.Hart.{Hart}
 use Rattle.hart_step.specs.Allowed.{IsAllowed}
 use Rattle.hart_step.specs.Answers.{Given}
+use Rattle.hart_step.specs.DebugReset.{debug_core, debug_harts, reset_debug_hart}
 use Rattle.hart_step.specs.Effects.{Effect, raises}
 use Rattle.hart_step.specs.Fit.{AreBytes, IsFit, IsWellFormed}
 use Rattle.hart_step.specs.Harts.{CoreState, hart_of, is_in_debug, reset_core, reset_hart, reset_harts}
-use Rattle.hart_step.specs.Laws.{HostStaysFit, IsListedAccess, ResetIsFit, StepStaysFit, StepsStayFit, UnreservedStaysFit}
+use Rattle.hart_step.specs.Laws.{DebugResetIsFit, HostStaysFit, IsListedAccess, ResetIsFit, StepStaysFit, StepsStayFit, UnreservedStaysFit}
 use Rattle.hart_step.specs.Memory.{Exception, MemoryState, exception}
 use Rattle.hart_step.specs.Shown.{Done}
 use Rattle.hart_step.specs.Step.{Fetched, HartAnswer, after_store, commits, core_after, decoded, fetched, from_decoded, from_fetched, from_interrupt, hart_step, host_cleared, memory_of, parcel, retired, rom_after, step, stored_by, traps, unreserved, unreserved_hart, with_high, with_low, without_reservation}
+use Rattle.hart_step.proofs.DebugResets.{kept_debug}
 use Rattle.hart_step.proofs.FitClasses.{FitEffect, MemoryFits, Stands, raises_fit, same_memory}
 use Rattle.hart_step.proofs.FitEffects.{effect_fits}
 use Rattle.hart_step.proofs.FitHarts.{HartFits, counted_fits, enters_fits, same_hart}
@@ -218,4 +220,27 @@ reset_is_fit_lem harts ram entry some most are even below = record {
   kept = kept_reset harts entry (reset_core harts ram entry) some most (resets_formed harts entry most even below) refl refl;
   ram = are;
   rom = All-nil (λ b. b < 256);
+}
+
+debug_formed : (h : ℕ) → h < 8 → IsWellFormed (reset_debug_hart h)
+debug_formed h within = record {
+  fit = record { zero = refl; even = refl; aligned = tt };
+  pc = lit< tt;
+  count = refl;
+  values = All-replicate (λ v. v < 2 ^ 64) 32 0 (lit< tt);
+  registers = reset_in_debug-fit h within;
+  reservation = tt;
+}
+
+debugs_formed : (n : ℕ) → n ≤ 8 → All IsWellFormed (debug_harts n)
+unfolding debug_harts
+debugs_formed zero most = All-nil IsWellFormed
+debugs_formed (suc n) most =
+    All-push IsWellFormed (debug_harts n) (reset_debug_hart n) (debugs_formed n (omega (arith, most))) (debug_formed n (omega (arith, most)))
+
+pub debug_reset_is_fit_lem : DebugResetIsFit
+debug_reset_is_fit_lem harts ram rom some most ram_are rom_are room = record {
+  kept = kept_debug harts (debug_core harts ram rom) some most (debugs_formed harts most) refl room;
+  ram = ram_are;
+  rom = rom_are;
 }

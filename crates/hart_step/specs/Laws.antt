@@ -3,8 +3,10 @@ use Rattle.std.specs.Prelude.{◌≡◌, ◌%◌, ◌^◌, ◌<◌, ◌≤◌, �
 use Rattle.board_bus.specs.Listed.{is_listed}
 use Rattle.hart_step.specs.Allowed.{IsAllowed}
 use Rattle.hart_step.specs.Answers.{Access, Given, Loads, Stores, Untouched}
+use Rattle.hart_step.specs.DebugReset.{debug_core}
 use Rattle.hart_step.specs.Fit.{AreBytes, IsFit}
 use Rattle.hart_step.specs.Harts.{CoreState, hart_of, is_in_debug, reset_core}
+use Rattle.hart_step.specs.Memory.{most_rom}
 use Rattle.hart_step.specs.Step.{Answer, host_cleared, step, unreserved}
 
 -- a device access is of a register that a board of n harts lists, and a value that is stored has as many bytes
@@ -44,3 +46,8 @@ UnreservedStaysFit = (core : CoreState) → IsFit core → StaysWellFormed core 
 abbrev pub ResetIsFit : Type 0
 ResetIsFit = (harts : ℕ) (ram : List ℕ) (entry : ℕ) →
     0 < harts → harts ≤ 8 → AreBytes ram → entry % 2 ≡ 0 → entry < 2 ^ 64 → IsFit (reset_core harts ram entry)
+
+-- and so is one at reset in debug mode, with a boot ROM of bounded length
+abbrev pub DebugResetIsFit : Type 0
+DebugResetIsFit = (harts : ℕ) (ram rom : List ℕ) →
+    0 < harts → harts ≤ 8 → AreBytes ram → AreBytes rom → length rom ≤ most_rom → IsFit (debug_core harts ram rom)

@@ -1,6 +1,6 @@
 // Laws of the definitions, each as the contract of a call that does nothing.
 
-ghost use Rattle.hart_step.specs.Laws.{HostStaysFit, ResetIsFit, StepsStayFit, UnreservedStaysFit};
+ghost use Rattle.hart_step.specs.Laws.{DebugResetIsFit, HostStaysFit, ResetIsFit, StepsStayFit, UnreservedStaysFit};
 ghost use Rattle.hart_step.specs.Told.{EffectsFollow, StepsFollow};
 
 /// Every step of a well-formed core, where it is given what the manuals allow, leaves a well-formed
@@ -15,9 +15,10 @@ pub fn changes_stay_fit()
     ensures unreserved { UnreservedStaysFit }
 {}
 
-/// A core at reset is well formed.
+/// A core at reset is well formed, and one at reset in debug mode.
 pub fn reset_is_fit()
-    ensures { ResetIsFit }
+    ensures reset { ResetIsFit }
+    ensures debug { DebugResetIsFit }
 {}
 
 /// An instruction that is told what another carrying out of it showed does the same, also on a hart that
