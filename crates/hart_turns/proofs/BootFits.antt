@@ -17,4 +17,4 @@ pub boots_stay_fit_lem : BootsStayFit
 unfolding booted
 boots_stay_fit_lem m fit =
     let left : Booting = (boot_harts m.shape.harts (begins_boot m)).left in
-    whole m left.core left.board m.taken (boots_keep (BootFits m.shape) m.shape.harts (step_fits m.shape) (begins_boot m) (parts_of m fit)) fit.taken
+    whole m left.core left.board m.taken (boots_keep (BootFits m.shape) m.shape.harts (step_fits m.shape) (begins_boot m) (parts_of m fit))

@@ -1,12 +1,11 @@
 -- What every step on the board, every turn and a clearing keep.
-use Rattle.std.proofs.Common.{◌≡◌, inl, inr, ℕ, zero, suc, not, List, get_or, refl, ap, ◌+◌, ◌^◌, ◌<◌, ◌≤◌, Bool, true, false, if◌then◌else◌, Option, Some, None, IfSome, length, sym, subst, ◌∙◌, arith, lit<}
+use Rattle.std.proofs.Common.{◌≡◌, inl, inr, ℕ, zero, suc, not, List, get_or, refl, ap, ◌<◌, ◌≤◌, Bool, true, false, if◌then◌else◌, Option, Some, None, IfSome, length, sym, subst, ◌∙◌, arith}
 use Rattle.std.specs.Prelude.{is_none, nat_lt}
 use Rattle.std.specs.List.{position_or_len}
 use Rattle.std.proofs.lemmas.Bool.{cases_lt, false≢true, ltb-false, ltb-true, not-true}
 use Rattle.std.proofs.lemmas.List.{get_or_past}
 use Rattle.std.proofs.lemmas.List.Sums.{prefix_len_passes, prefix_len_stops}
 use Rattle.sim_config.specs.declared.values.Shape.{Shape}
-use Rattle.console.specs.State.{queue_room}
 use Rattle.board_bus.specs.Board.{BoardState, IsFit as IsFitBoard, ticked}
 use Rattle.board_bus.specs.declared.window.HostSays.{HostSays}
 use Rattle.board_bus.specs.declared.window.HostSays.TheVariants.{Nothing, End, Send, Bad}
@@ -17,15 +16,16 @@ use Rattle.hart_step.specs.declared.hart.Hart.{Hart}
 use Rattle.hart_step.specs.Harts.{CoreState, hart_of, is_in_debug, lowest_in_debug, reset_hart}
 use Rattle.hart_step.specs.Laws.{StaysWellFormed, StepStaysFit}
 use Rattle.hart_step.specs.Step.{host_cleared, unreserved}
+use Rattle.hart_step.proofs.DebugResets.{debug_length}
 use Rattle.hart_step.proofs.FitSteps as core_laws
 use Rattle.hart_step.proofs.Lists.{reset_length}
 use Rattle.hart_turns.specs.declared.machine.TurnEnd.{TurnEnd}
 use Rattle.hart_turns.specs.declared.machine.TurnEnd.TheVariants.{Goes, Ended, BadHost}
 use Rattle.hart_turns.specs.Fit.{IsFit}
-use Rattle.hart_turns.specs.FitLaws.{AreFit, BoardStepsStayFit, ClearingStaysFit, ResetIsFit, TurnsStayFit, TurnsStayRunning}
+use Rattle.hart_turns.specs.FitLaws.{AreFit, BoardStepsStayFit, ClearingStaysFit, DebugResetIsFit, ResetIsFit, TurnsStayFit, TurnsStayRunning}
 use Rattle.hart_turns.specs.Gives.{board_after, board_gives, board_step}
 use Rattle.hart_turns.specs.Machine.{MachineState, is_running}
-use Rattle.hart_turns.specs.Turn.{Progress, after_window, all_steps, begins, closed, end_of, hart_steps, looked_after, one_step, taken_after, takes, turned, window_after}
+use Rattle.hart_turns.specs.Turn.{Progress, after_window, all_steps, begins, closed, end_of, hart_steps, looked_after, one_step, takes, turned, window_after}
 use Rattle.hart_turns.proofs.Allowed.{board_is_allowed_lem}
 
 -- ---- one step
@@ -96,33 +96,24 @@ takes_fit : (offered : Option ℕ) (b : BoardState) → IfSome offered (λ byte.
 takes_fit None b below fit = devices.same b fit
 takes_fit (Some byte) b below fit = devices.enters_stay b fit byte below
 
-one_more : (b : Bool) (taken : ℕ) → taken + 1 < 2 ^ 64 → (if b then taken + 1 else taken) < 2 ^ 64
-one_more true taken below = below
-one_more false taken below = omega arith
-
-taken_fits : (offered : Option ℕ) (b : BoardState) (taken : ℕ) → taken + 1 < 2 ^ 64 → taken_after offered b taken < 2 ^ 64
-taken_fits None b taken below = omega arith
-taken_fits (Some byte) b taken below = one_more (nat_lt (length b.console.queue) queue_room) taken below
-
 -- a machine of these parts
-pub whole : (m : MachineState) (core : CoreState) (board : BoardState) (taken : ℕ) → AreFit m.shape core board → taken < 2 ^ 64 → IsFit (record { shape = m.shape; core = core; board = board; taken = taken })
-whole m core board taken are below = record { shape = are.parts; core = are.harts; board = are.devices; taken = below }
+pub whole : (m : MachineState) (core : CoreState) (board : BoardState) (taken : ℕ) → AreFit m.shape core board → IsFit (record { shape = m.shape; core = core; board = board; taken = taken })
+whole m core board taken are = record { shape = are.parts; core = are.harts; board = are.devices }
 
 pub parts_of : (m : MachineState) → IsFit m → AreFit m.shape m.core m.board
 parts_of m fit = record { parts = fit.shape; harts = fit.core; devices = fit.board }
 
-closed_fits : (m : MachineState) (offered : Option ℕ) (p : Progress) (end : TurnEnd) → IsFit m → m.taken + 1 < 2 ^ 64 → IfSome offered (λ byte. byte < 256) → AreFit m.shape p.core p.board → IsFit (closed m offered p end)
-closed_fits m offered p Goes fit below offers are =
+closed_fits : (m : MachineState) (offered : Option ℕ) (p : Progress) (end : TurnEnd) → IsFit m → IfSome offered (λ byte. byte < 256) → AreFit m.shape p.core p.board → IsFit (closed m offered p end)
+closed_fits m offered p Goes fit offers are =
     let taken : devices.Stays p.board (takes offered p.board) = takes_fit offered p.board offers are.devices in
     let later : devices.Stays (takes offered p.board) (ticked (takes offered p.board)) = devices.ticks_stay (takes offered p.board) taken.fit in
     record {
       shape = record { shape_fit = are.parts.shape_fit; harts = are.parts.harts; devices = later.harts ∙ taken.harts ∙ are.parts.devices; ram = are.parts.ram };
       core = are.harts;
       board = later.fit;
-      taken = taken_fits offered p.board m.taken below;
     }
-closed_fits m offered p (Ended code) fit below offers are = whole m p.core p.board m.taken are fit.taken
-closed_fits m offered p (BadHost word) fit below offers are = whole m p.core p.board m.taken are fit.taken
+closed_fits m offered p (Ended code) fit offers are = whole m p.core p.board m.taken are
+closed_fits m offered p (BadHost word) fit offers are = whole m p.core p.board m.taken are
 
 -- the progress of a machine's turn after its steps and the look at the window
 abbrev looked : MachineState → Progress
@@ -137,9 +128,9 @@ looked_fits m fit =
 
 pub turns_stay_fit_lem : TurnsStayFit
 unfolding turned
-turns_stay_fit_lem m offered fit below offers =
+turns_stay_fit_lem m offered fit offers =
     let fits = looked_fits m fit in
-    closed_fits m offered (looked m) (end_of (window_after m.shape.harts m.shape.slice m.shape.tohost (begins m))) fit below offers fits.are
+    closed_fits m offered (looked m) (end_of (window_after m.shape.harts m.shape.slice m.shape.tohost (begins m))) fit offers fits.are
 
 -- ---- debug mode
 
@@ -187,7 +178,7 @@ turns_stay_running_lem m offered fit runs =
 pub clearing_stays_fit_lem : ClearingStaysFit
 clearing_stays_fit_lem m fit =
     whole m (unreserved m.core) m.board m.taken
-    (changed m.shape m.core (unreserved m.core) m.board m.board (parts_of m fit) (core_laws.unreserved_stays_fit m.core fit.core) (devices.same m.board fit.board)) fit.taken
+    (changed m.shape m.core (unreserved m.core) m.board m.board (parts_of m fit) (core_laws.unreserved_stays_fit m.core fit.core) (devices.same m.board fit.board))
 
 -- ---- reset
 
@@ -196,5 +187,11 @@ reset_is_fit_lem shape ram entry ranges long are even below = record {
   shape = record { shape_fit = ranges; harts = reset_length shape.harts entry; devices = devices.reset_harts shape.harts; ram = long };
   core = core_laws.reset_is_fit_lem shape.harts ram entry ranges.harts_least ranges.harts_most are even below;
   board = devices.reset_fits shape.harts ranges.harts_least ranges.harts_most;
-  taken = lit< tt;
+}
+
+pub debug_reset_is_fit_lem : DebugResetIsFit
+debug_reset_is_fit_lem shape taken ram rom ranges long ram_are rom_are room = record {
+  shape = record { shape_fit = ranges; harts = debug_length shape.harts; devices = devices.reset_harts shape.harts; ram = long };
+  core = core_laws.debug_reset_is_fit_lem shape.harts ram rom ranges.harts_least ranges.harts_most ram_are rom_are room;
+  board = devices.reset_fits shape.harts ranges.harts_least ranges.harts_most;
 }

@@ -1,5 +1,4 @@
 -- Which machines are well formed.
-use Rattle.std.specs.Prelude.{◌^◌, ◌<◌}
 use Rattle.board_bus.specs.Board as board
 use Rattle.hart_step.specs.Fit as core
 use Rattle.hart_turns.specs.Machine.{FitsShape, MachineState}
@@ -9,4 +8,3 @@ pub record IsFit (m : MachineState) : Type 0 where
   pub shape : FitsShape m.shape m.core m.board
   pub core : core.IsFit m.core
   pub board : board.IsFit m.board
-  pub taken : m.taken < 2 ^ 64

@@ -1,6 +1,6 @@
 // Laws of the definitions, each as the contract of a call that does nothing.
 
-ghost use Rattle.hart_turns.specs.FitLaws.{BoardStepsStayFit, BootsStayFit, ClearingStaysFit, ResetIsFit, TurnsStayFit, TurnsStayRunning};
+ghost use Rattle.hart_turns.specs.FitLaws.{BoardStepsStayFit, BootsStayFit, ClearingStaysFit, DebugResetIsFit, ResetIsFit, TurnsStayFit, TurnsStayRunning};
 ghost use Rattle.hart_turns.specs.Laws.{BoardIsAllowed, BootsEnd, LowestSteps};
 
 /// What the board gives a step is one of the behaviours that the manuals allow.
@@ -24,11 +24,12 @@ pub fn board_steps_stay_fit()
 {}
 
 /// So do every turn of a machine, which leaves it running where it was, every boot and the loss of every
-/// reservation; and a machine at reset is well formed.
+/// reservation; and a machine at reset is well formed, in debug mode too.
 pub fn machines_stay_fit()
     ensures turns { TurnsStayFit }
     ensures running { TurnsStayRunning }
     ensures boots { BootsStayFit }
     ensures clearing { ClearingStaysFit }
     ensures reset { ResetIsFit }
+    ensures debug { DebugResetIsFit }
 {}

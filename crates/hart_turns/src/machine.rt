@@ -143,7 +143,6 @@ impl Machine {
     {
         self.running.core.see_fit();
         let _time = self.running.outside.board.time();
-        let _taken = self.taken;
     }
 
     /// Whether no hart is in debug mode.
@@ -154,7 +153,8 @@ impl Machine {
     }
 
     /// One turn, in which an input byte is offered, or none. What is kept of the last turn gives way
-    /// to this one's console bytes and events.
+    /// to this one's console bytes and events. A machine that is not running is booted first: here
+    /// each of its harts steps.
     pub fn turn(&mut self, input: Option<u8>) -> TurnEnd
         requires { self.old.machine.taken < 2_000_000_000_000 }
         ensures end { result ≡ (turned self.old.machine input).end }
