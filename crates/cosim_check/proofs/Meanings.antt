@@ -1,7 +1,7 @@
 -- What each verdict means.
 use Rattle.std.proofs.Common.{◌≡◌, ℕ, suc, ◌+◌, ◌-◌, ◌==◌, Bool, true, false, ◌&&◌, if◌then◌else◌, List, [], ◌∷◌, length, refl, sym, subst, arith}
 use Rattle.std.specs.Prelude.{Result, Ok, Err, Option, Some, None}
-use Rattle.std.proofs.lemmas.Bool.{eqb-true}
+use Rattle.std.proofs.lemmas.Bool.{eqb-false, eqb-true}
 use Rattle.hart_step.specs.declared.event.Event.{Event}
 use Rattle.hart_step.specs.Harts.{CoreState}
 use Rattle.commit_log.specs.Reading.{event_of}
@@ -100,8 +100,8 @@ all_mean core tohost (l ∷ ls) n = means_reading core tohost l ls n (λ e. all_
 
 full_means : (core : CoreState) (tohost : ℕ) (ls : List (List ℕ)) (most n : ℕ) (same more : Bool) → (n == most) ≡ same → n ≡ 0 + length ls → Means core tohost ls most more (if same && more then TooMany most else Passing n)
 full_means core tohost ls most n true true is count = (refl, (let here = eqb-true n most is in let all : most ≡ length ls = omega arith in all), refl)
-full_means core tohost ls most n true false is count = let all : n ≡ length ls = omega arith in all
-full_means core tohost ls most n false more is count = let all : n ≡ length ls = omega arith in all
+full_means core tohost ls most n true false is count = ((let all : n ≡ length ls = omega arith in all), λ q. refl)
+full_means core tohost ls most n false more is count = ((let all : n ≡ length ls = omega arith in all), λ q. absurd (eqb-false n most is q))
 
 refused_means : (core : CoreState) (tohost : ℕ) (ls : List (List ℕ)) (most : ℕ) (more : Bool) (v : Verdict) → Refused core tohost ls 0 v → Means core tohost ls most more v
 refused_means core tohost ls most more (Passing n) r = absurd r.refusal

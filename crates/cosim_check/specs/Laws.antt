@@ -1,5 +1,5 @@
 -- The verdict in the words of records: the greatest prefix that passes, and what refuses the record after it.
-use Rattle.std.specs.Prelude.{◌≡◌, ◌≤◌, ℕ, zero, suc, Bool, false, List, [], ◌∷◌, ◌++◌, length, take, Some, None, IsTrue}
+use Rattle.std.specs.Prelude.{◌≡◌, ◌≤◌, ℕ, zero, suc, Bool, false, List, [], ◌∷◌, ◌++◌, length, take, Some, None, IsFalse, IsTrue}
 use Rattle.hart_step.specs.declared.event.Event.{Event}
 use Rattle.hart_step.specs.Harts.{CoreState}
 use Rattle.commit_log.specs.Column.{IsColumn}
@@ -61,10 +61,10 @@ RefusedAt core tohost [] n verdict = ⊥
 RefusedAt core tohost (l ∷ ls) zero verdict = Refuses core tohost l verdict
 RefusedAt core tohost (l ∷ ls) (suc n) verdict = (e : Event) × IsSpellable e × (l ≡ line e) × Allows core tohost e × RefusedAt (core_past core tohost e) tohost ls n verdict
 
--- Passing: all deciding lines pass. Disallowed and BadLine: the line after the first n is refused for this reason.
+-- Passing: all deciding lines pass, and where they are as many as may, no byte follows them. Disallowed and BadLine: the line after the first n is refused for this reason.
 -- TooMany: all deciding lines pass, they are as many as may, and a byte follows them
 abbrev pub Means : CoreState → ℕ → List (List ℕ) → ℕ → Bool → Verdict → Type 0
-Means core tohost lines most more (Passing n) = n ≡ length lines
+Means core tohost lines most more (Passing n) = (n ≡ length lines) × (n ≡ most → IsFalse more)
 Means core tohost lines most more (Disallowed n field allowed given) = RefusedAt core tohost lines n (Disallowed n field allowed given)
 Means core tohost lines most more (BadLine n column) = RefusedAt core tohost lines n (BadLine n column)
 Means core tohost lines most more (TooMany n) = (n ≡ most) × (n ≡ length lines) × IsTrue more
@@ -86,4 +86,6 @@ RefusedDiffers = (core : CoreState) (tohost most : ℕ) (bytes : List ℕ) (ende
 
 -- a verdict other than Passing is that of every longer stream
 abbrev pub VerdictStays : Type 0
-VerdictStays = (core : CoreState) (tohost most : ℕ) (bytes : List ℕ) (verdict : Verdict) → verdict_of core tohost most bytes false ≡ verdict → IsFinal verdict → (later : List ℕ) (ended : Bool) → verdict_of core tohost most (bytes ++ later) ended ≡ verdict
+VerdictStays = (core : CoreState) (tohost most : ℕ) (bytes : List ℕ) (verdict : Verdict) →
+    verdict_of core tohost most bytes false ≡ verdict → IsFinal verdict →
+    (later : List ℕ) (ended : Bool) → verdict_of core tohost most (bytes ++ later) ended ≡ verdict

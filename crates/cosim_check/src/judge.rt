@@ -1,7 +1,7 @@
 // The judge of a stream.
 
-ghost use Rattle.std.specs.Prelude.{◌≡◌, ◌<◌, ◌≤◌, ◌++◌, ◌∷◌, [], take, ℕ, List, IsFalse, IsTrue, false, true, length};
-ghost use Rattle.hart_step.specs.Harts.{CoreState};
+ghost use Rattle.std.specs.Prelude.{◌≡◌, ◌<◌, ◌≤◌, ◌++◌, ◌∷◌, [], take, ℕ, List, IsFalse, IsTrue, false, is_none, true, length};
+ghost use Rattle.hart_step.specs.Harts.{CoreState, lowest_in_debug};
 ghost use Rattle.cosim_check.specs.Lines.{newline};
 ghost use Rattle.cosim_check.specs.Places.{IsPlain, next_place, place_of, places, verdict_at};
 ghost use Rattle.cosim_check.specs.Standing.{HasWindow, StandsFor};
@@ -42,11 +42,12 @@ impl Model for Judge {
 }
 
 impl Judge {
-    /// A judge of a stream that begins with this core. `tohost` is the address of the host window, a
-    /// multiple of 8 whose 8 bytes lie in memory, or 0 where there is none; so many records may pass
-    /// at the `most`.
+    /// A judge of a stream that begins with this core, no hart of which is in debug mode. `tohost` is
+    /// the address of the host window, a multiple of 8 whose 8 bytes lie in memory, or 0 where there is
+    /// none; so many records may pass at the `most`.
     pub fn new(core: Core, tohost: u64, most: u64) -> Judge
-        requires { HasWindow tohost core.ram }
+        requires window { HasWindow tohost core.ram }
+        requires running { IsTrue (is_none (lowest_in_debug core)) }
         ensures stands { StandsFor result core [] }
         ensures tohost { result.tohost ≡ tohost }
         ensures most { result.most ≡ most }

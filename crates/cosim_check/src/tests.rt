@@ -64,7 +64,7 @@ pub(crate) fn judge_of(
     put_words(&mut ram, words);
     assert!(rt; 0 < harts && harts <= 8);
     let core = Core::new(alloc, harts, ram, BASE)?;
-    assert!(rt; is_window(tohost, core.ram()));
+    assert!(rt; is_window(tohost, core.ram()) && core.in_debug().is_none());
     Ok(Judge::new(core, tohost, most))
 }
 
