@@ -1,6 +1,6 @@
 /* The one program of the system, without a C library. It maps memory, writes and sums it; starts one child for
-   each hart, which pins itself there and counts primes; waits for them, and powers off. It prints by kernel
-   messages. */
+   each hart, which pins itself there and counts the steps that its numbers take to one; waits for them, and powers
+   off. It prints by kernel messages. */
 
 typedef unsigned long word;
 
@@ -77,32 +77,30 @@ static word sum(void)
     return total;
 }
 
-/* Primes from `from` up to `to`, without it. */
-static word primes(word from, word to)
+/* How many steps the numbers from `from` up to `to`, without it and without 0, take to one, in all. A step halves an
+   even number and makes 3n + 1 of an odd one. */
+static word steps_to_one(word from, word to)
 {
-    word found = 0;
-    for (word n = from < 2 ? 2 : from; n < to; n++) {
-        word divisor = 2;
-        while (divisor * divisor <= n && n % divisor)
-            divisor++;
-        found += divisor * divisor > n;
-    }
-    return found;
+    word steps = 0;
+    for (word n = from ? from : 1; n < to; n++)
+        for (word at = n; at != 1; steps++)
+            at = at % 2 ? 3 * at + 1 : at / 2;
+    return steps;
 }
 
 /* What a child leaves in the page that it shares with its parent. */
 struct result {
     unsigned hart;
-    word found;
+    word steps;
 };
 
-enum { MOST = 8, SHARE = 5000 };
+enum { MOST = 8, SHARE = 1000 };
 
 static void child(int hart, struct result *result)
 {
     word mask = 1ul << hart;
     CALL(SCHED_SETAFFINITY, 0, sizeof mask, &mask, 0);
-    result->found = primes((word)hart * SHARE, (word)(hart + 1) * SHARE);
+    result->steps = steps_to_one((word)hart * SHARE, (word)(hart + 1) * SHARE);
     CALL(GETCPU, &result->hart, 0, 0, 0);
     CALL(EXIT, hart, 0, 0, 0);
 }
@@ -139,15 +137,15 @@ void _start(void)
         text(" on hart ");
         number(results[i].hart);
         text(", ");
-        number(results[i].found);
-        text(" primes from ");
+        number(results[i].steps);
+        text(" steps from ");
         number((word)i * SHARE);
         end_line();
-        total += results[i].found;
+        total += results[i].steps;
     }
     text("init: ");
     number(total);
-    text(" primes below ");
+    text(" steps to one of the numbers below ");
     number((word)harts * SHARE);
     text(", powering off");
     end_line();
