@@ -1,6 +1,6 @@
 //! A law across crates: each record that a machine leaves in a turn is allowed, after those before it, by a
 //! core that covers the machine's, and these records lead that core to one that covers the machine's after
-//! the turn. So a judge that begins where a machine begins refuses nothing of that machine's trace.
+//! the turn.
 #![tactic(auto)]
 
 ghost use Rattle.trace_law.specs.Passing.{StepsPass, TurnsPass};
