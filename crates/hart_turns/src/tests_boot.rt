@@ -4,10 +4,11 @@
 use crate::step_tests::{counted, same};
 use crate::step_tests_debug::push_word;
 use crate::tests::Shown::Wrote;
-use crate::tests::{SMALL, go, is_shape, leaves, put_words, shows};
+use crate::tests::{SMALL, go, is_event, is_shape, leaves, put_words, shows};
 use crate::{BootFault, Machine, NoMemory};
 use Ends::{Freed, Long, Trap};
 use guest_ram::{BASE, GuestRam};
+use hart_step::{Event, Priv};
 use rv_alu::Mode;
 use sim_config::Shape;
 use std::alloc::Global;
@@ -19,8 +20,8 @@ use std::test::Fail;
 enum Ends {
     // After so many steps.
     Freed(u32),
-    // At this pc, by this cause, of hart 0.
-    Trap(u64, u8),
+    // Of this hart, at this pc, by this cause.
+    Trap(u8, u64, u8),
     // With this hart.
     Long(u8),
 }
@@ -49,14 +50,14 @@ const SEND: [u32; 5] = [
     0x0062_8023, // sb x6,0(x5)
 ];
 
-static BOOTS: [Boot; 21] = [
+static BOOTS: [Boot; 22] = [
     (1, &[0x0000_006f], &[], Long(0), b""), // jal x0,0
-    (1, &[0x0010_0073], &[], Trap(0x1_0000, 3), b""), // ebreak
-    (1, &[0x0000_0073], &[], Trap(0x1_0000, 11), b""), // ecall
-    (1, &[0x3020_0073], &[], Trap(0x1_0000, 2), b""), // mret
-    (1, &[0x1020_0073], &[], Trap(0x1_0000, 2), b""), // sret
-    (1, &[], &[], Trap(0x1_0000, 1), b""),
-    (1, &[NOTHING], &[], Trap(0x1_0004, 1), b""),
+    (1, &[0x0010_0073], &[], Trap(0, 0x1_0000, 3), b""), // ebreak
+    (1, &[0x0000_0073], &[], Trap(0, 0x1_0000, 11), b""), // ecall
+    (1, &[0x3020_0073], &[], Trap(0, 0x1_0000, 2), b""), // mret
+    (1, &[0x1020_0073], &[], Trap(0, 0x1_0000, 2), b""), // sret
+    (1, &[], &[], Trap(0, 0x1_0000, 1), b""),
+    (1, &[NOTHING], &[], Trap(0, 0x1_0004, 1), b""),
     (1, &[LEAVE], &[], Freed(1), b""),
     (8, &[LEAVE], &[], Freed(8), b""),
     // what is left after 1,023 steps: the last step leaves, or one more than the most would
@@ -67,7 +68,7 @@ static BOOTS: [Boot; 21] = [
         1,
         &[COUNT, DOWN, AGAIN, 0x0010_0073], // ebreak
         &[],
-        Trap(0x1_000c, 3),
+        Trap(0, 0x1_000c, 3),
         b"",
     ),
     (
@@ -90,6 +91,19 @@ static BOOTS: [Boot; 21] = [
         Long(1),
         b"",
     ),
+    // hart 0 leaves, and hart 1 meets the exception
+    (
+        2,
+        &[
+            0xf140_22f3, // csrrs x5,mhartid,x0
+            0x0002_9463, // bne x5,x0,8
+            LEAVE,
+            0xffff_ffff, // no instruction
+        ],
+        &[],
+        Trap(1, 0x1_000c, 2),
+        b"",
+    ),
     // into memory
     (
         1,
@@ -110,7 +124,7 @@ static BOOTS: [Boot; 21] = [
             0x0000_8067, // jalr x0,0(x1)
         ],
         &[0x0070_0293], // addi x5,x0,7
-        Trap(BASE + 4, 2),
+        Trap(0, BASE + 4, 2),
         b"",
     ),
     // into the ROM itself
@@ -118,7 +132,7 @@ static BOOTS: [Boot; 21] = [
         1,
         &[0x0000_0297, 0x0002_b023, LEAVE], // auipc x5,0; sd x0,0(x5)
         &[],
-        Trap(0x1_0004, 7),
+        Trap(0, 0x1_0004, 7),
         b"",
     ),
     // to a device
@@ -140,7 +154,7 @@ static BOOTS: [Boot; 21] = [
         1,
         &[SEND[0], SEND[1], SEND[2], SEND[3], SEND[4], 0x0010_0073], // ebreak
         &[],
-        Trap(0x1_0014, 3),
+        Trap(0, 0x1_0014, 3),
         b"Hi",
     ),
 ];
@@ -184,7 +198,7 @@ fn held(machine: &Machine) -> (usize, Option<u8>) {
 fn wanted(ends: Ends) -> (Result<u32, BootFault>, Option<u8>) {
     match ends {
         Freed(steps) => (Ok(steps), None),
-        Trap(pc, cause) => (Err(BootFault::Trap { hart: 0, pc, cause }), Some(0)),
+        Trap(hart, pc, cause) => (Err(BootFault::Trap { hart, pc, cause }), Some(hart)),
         Long(hart) => (Err(BootFault::Long { hart }), Some(hart)),
     }
 }
@@ -228,7 +242,7 @@ fn boots_end_as_the_rom_says(rt: HostRuntime) -> Result<(), Fail> {
 // A boot that was refused goes on where it stands, and its bytes give way.
 #[test]
 fn a_boot_replaces_the_bytes_of_the_last(rt: HostRuntime) -> Result<(), Fail> {
-    let row = &BOOTS[20];
+    let row = &BOOTS[21];
     let mut machine = debugged(&rt, rt.alloc(), 1, row.1, &[])?;
     boots(&rt, &mut machine, row, 0);
     let again: Boot = (1, row.1, &[], row.3, b"");
@@ -246,6 +260,15 @@ static TO_USER: [u32; 6] = [
     LEAVE,
 ];
 
+// No memory stands at 0, where a hart goes that leaves with its debug registers at reset.
+static NOWHERE: Event = Event::Exception {
+    hart: 0,
+    mode: Priv::M,
+    pc: 0,
+    cause: 1,
+    tval: 0,
+};
+
 // Where hart 0 is, and in which mode.
 fn place(rt: &impl Abort, machine: &Machine) -> (u64, Mode) {
     assert!(rt; 0 < machine.core().harts());
@@ -261,6 +284,9 @@ fn a_hart_leaves_into_the_mode_of_dcsr(rt: HostRuntime) -> Result<(), Fail> {
     let mut machine = debugged(&rt, rt.alloc(), 1, &[LEAVE], &[])?;
     same(&rt, &machine.boot(), &Ok(1), "boot", 1);
     same(&rt, &place(&rt, &machine), &(0, Mode::M), "place", 1);
+    go(&rt, &mut machine, None);
+    leaves(&rt, &machine, 1, b"");
+    is_event(&rt, &machine, 0, NOWHERE);
     Ok(())
 }
 
