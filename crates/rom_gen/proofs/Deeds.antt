@@ -7,7 +7,6 @@ use Rattle.std.proofs.lemmas.List.{append-nil, get_or-set_same, get_or-set_other
 use Rattle.rv_alu.specs.Bits.{low_bytes}
 use Rattle.rv_decode.specs.declared.Insn.{Insn}
 use Rattle.csr_file.specs.declared.registers.Registers.{Registers}
-use Rattle.guest_ram.specs.Bytes.{base}
 use Rattle.board_bus.specs.Board.{BoardState, after_load, sent, stored}
 use Rattle.board_bus.specs.Listed.{is_listed}
 use Rattle.hart_step.specs.declared.hart.Hart.{Hart}
@@ -112,7 +111,7 @@ store_does b h block src v by at w off known csrs works src_fits got reached qui
     let harts : List Hart = slice_set left h next in
     record {
       harts = harts;
-      spelled = (store w src by off src_fits (let k = reached.low in omega arith) reached.short (ap (λ a. a % s) to ∙ reached.aligned) (subst (λ a. a < base) (sym to) reached.below) (ap (λ a. is_listed (length b.core.harts) a s) to ∙ reached.listed), tt);
+      spelled = (store w src by off src_fits (let k = reached.low in omega arith) reached.short (ap (λ a. is_listed (length b.core.harts) a s) to ∙ reached.listed), tt);
       is = ap (λ q. stores h 1 q s (register hart src) next b) to
           ∙ ap (λ y. stores h 1 at s y next b) got
           ∙ ap (λ c. record { core = record b.core { harts = harts }; board = stored b.board at s x; console = b.console ++ c; steps = b.steps + 1 }) quiet
@@ -131,7 +130,7 @@ read_does b h block by at w off known csrs works reached =
     let next : Hart = with_write hart 6 v (pc_after hart 4) in
     record {
       harts = slice_set b.core.harts h next;
-      spelled = (load w 6 by off (omega arith) (omega arith) (let k = reached.low in omega arith) reached.short (ap (λ a. a % s) to ∙ reached.aligned) (subst (λ a. a < base) (sym to) reached.below) (ap (λ a. is_listed (length b.core.harts) a s) to ∙ reached.listed), tt);
+      spelled = (load w 6 by off (omega arith) (omega arith) (let k = reached.low in omega arith) reached.short (ap (λ a. is_listed (length b.core.harts) a s) to ∙ reached.listed), tt);
       is = ap (λ q. loads h 1 q s 6 hart b) to;
       works = works_moved b h 1 block (knows 6 v known) csrs b.core.harts next (after_load b.board at s) works.inside (put_works hart block 6 v _ known csrs (omega arith) (omega arith) works.hart);
       stay = stay_set h b.core.harts next works.inside (ap (λ (x : Hart). x.reservation) (put_is hart 6 v (pc_after hart 4) (omega arith)));
@@ -168,8 +167,6 @@ reached_on {w = w} {off = off} {at = at} same from reached = record {
   other = reached.other;
   short = reached.short;
   place = ap (λ a. offset_by a off) from ∙ reached.place;
-  aligned = reached.aligned;
-  below = reached.below;
   listed = ap (λ n. is_listed n at (size_of w)) same ∙ reached.listed;
 }
 

@@ -5,7 +5,6 @@ use Rattle.std.proofs.lemmas.Int.{ints}
 use Rattle.std.proofs.lemmas.List.{append-nil, length-set}
 use Rattle.rv_alu.specs.Bits.{low_bytes}
 use Rattle.rv_decode.specs.Ranges.{IsSigned}
-use Rattle.guest_ram.specs.Bytes.{base}
 use Rattle.clint.specs.State.{hart_count}
 use Rattle.plic.specs.State.{IsWithinSources, context_count, source_bits}
 use Rattle.board_bus.specs.Board.{BoardState, stored}
@@ -46,15 +45,13 @@ run_on n ram known b b1 b' d ds sound is rest = (sound, subst (λ x. Runs n ram 
 
 -- a register that is reached, where the base register's value is known
 pub reached : (n : ℕ) (known : Known) (w : Width) (by : ℕ) (off : ℤ) (at from : ℕ) → known by ≡ from → 1 < by → by < 8 → by ≢ 6 → IsSigned 12 off →
-    offset_by from off ≡ at → at % size_of w ≡ 0 → at < base → is_listed n at (size_of w) ≡ true → IsReached n known w by off at
-reached n known w by off at from is some low other short place aligned below listed = record {
+    offset_by from off ≡ at → is_listed n at (size_of w) ≡ true → IsReached n known w by off at
+reached n known w by off at from is some low other short place listed = record {
   some = some;
   low = low;
   other = other;
   short = short;
   place = ap (λ a. offset_by a off) is ∙ place;
-  aligned = aligned;
-  below = below;
   listed = listed;
 }
 
@@ -76,7 +73,7 @@ queue_runs (x ∷ q) rest n ram five seven known b b' points loop room bytes the
     let is : stored b 0x10000000 1 y ≡ b1 = looped b y loop (omega arith) ∙ ap (λ z. record b { console = record b.console { queue = b.console.queue ++ z ∷ [] } }) kept in
     let known1 : Known = cond (x == 0) known (knows 6 x known) in
     run_on n ram known b b1 b' (Save Byte x 2 (pos 0) 0x10000000) (queue_deeds q rest)
-    (omega arith, reached n known Byte 2 (pos 0) 0x10000000 0x10000000 points.two (omega arith) (omega arith) (omega arith) (up 0 (omega arith)) refl refl (omega arith) (data_listed n), unsent ram b y loop)
+    (omega arith, reached n known Byte 2 (pos 0) 0x10000000 0x10000000 points.two (omega arith) (omega arith) (omega arith) (up 0 (omega arith)) refl (data_listed n), unsent ram b y loop)
     is
     (queue_runs q rest n ram five seven known1 b1 b' (points_six (x == 0) five seven x known points) loop (let k = length-append b.console.queue (x ∷ []) in omega arith) (λ i d within. bytes (suc i) d (omega arith))
     (λ known' p. subst (λ xs. Runs n ram known' (record b { console = record b.console { queue = xs } }) rest b') (sym (append_assoc b.console.queue (x ∷ []) q)) (then_rest known' p)))
@@ -117,11 +114,11 @@ context_runs (suc k) c enables thresholds rest n ram five seven known b b' point
     let points3 : Points a seven known3 = points_six (threshold == 0) a seven threshold known2 points2 in
     let more : List Deed = context_deeds k (suc c) enables thresholds rest in
     run_on n ram known b b1 b' (Save Word e 4 (pos (128 * c)) (0xc002000 + 128 * c)) (Aim 5 a ∷ Save Word threshold 5 (pos 0) a ∷ more)
-    (omega arith, reached n known Word 4 (pos (128 * c)) (0xc002000 + 128 * c) 0xc002000 points.four (omega arith) (omega arith) (omega arith) (up (128 * c) (omega arith)) (omega arith) (omega arith) (omega arith) (enable_listed n c (omega arith) (omega arith)), unsent_below ram b (0xc002000 + 128 * c) 4 (low_bytes 4 e) (omega arith))
+    (omega arith, reached n known Word 4 (pos (128 * c)) (0xc002000 + 128 * c) 0xc002000 points.four (omega arith) (omega arith) (omega arith) (up (128 * c) (omega arith)) (omega arith) (enable_listed n c (omega arith) (omega arith)), unsent_below ram b (0xc002000 + 128 * c) 4 (low_bytes 4 e) (omega arith))
     is1 (
       ((omega arith), (omega arith), (omega arith), (omega arith)),
       run_on n ram known2 b1 b2 b' (Save Word threshold 5 (pos 0) a) more
-          (omega arith, reached n known2 Word 5 (pos 0) a a points2.five_is (omega arith) (omega arith) (omega arith) (up 0 (omega arith)) (omega arith) (omega arith) (omega arith) (threshold_listed n c (omega arith) (omega arith)), unsent_below ram b1 a 4 (low_bytes 4 threshold) (omega arith))
+          (omega arith, reached n known2 Word 5 (pos 0) a a points2.five_is (omega arith) (omega arith) (omega arith) (up 0 (omega arith)) (omega arith) (threshold_listed n c (omega arith) (omega arith)), unsent_below ram b1 a 4 (low_bytes 4 threshold) (omega arith))
           is2
           (context_runs k (suc c) enables thresholds rest n ram a seven known3 b2 b' points3 (omega arith) most count1 enables_fit thresholds_fit then_rest),
     )
@@ -141,7 +138,7 @@ soft_runs (suc k) h xs rest n ram seven known b b' points within most count bits
     let kept : low_bytes 4 (low_bytes 4 x) % 2 ≡ x = omega arith in
     let is : stored b at 4 (low_bytes 4 x) ≡ b1 = soft_stored b h (low_bytes 4 x) (omega arith) (omega arith) ∙ ap (λ w. record b { clint = record b.clint { msip = slice_set b.clint.msip h w } }) kept in
     run_on n ram known b b1 b' (Save Word x 5 (pos (4 * h)) at) (soft_deeds k (suc h) xs rest)
-    (omega arith, reached n known Word 5 (pos (4 * h)) at 0x2000000 points.five_is (omega arith) (omega arith) (omega arith) (up (4 * h) (omega arith)) (omega arith) (omega arith) (omega arith) (soft_listed n h (omega arith) most), unsent_below ram b at 4 (low_bytes 4 x) (omega arith))
+    (omega arith, reached n known Word 5 (pos (4 * h)) at 0x2000000 points.five_is (omega arith) (omega arith) (omega arith) (up (4 * h) (omega arith)) (omega arith) (soft_listed n h (omega arith) most), unsent_below ram b at 4 (low_bytes 4 x) (omega arith))
     is
     (soft_runs k (suc h) xs rest n ram seven (cond (x == 0) known (knows 6 x known)) b1 b' (points_six (x == 0) 0x2000000 seven x known points) (omega arith) most (length-set b.clint.msip h x ∙ count) bits then_rest)
 
@@ -158,6 +155,6 @@ compare_runs (suc k) h xs rest n ram five known b b' points within most count fi
     let kept : low_bytes 8 (low_bytes 8 x) ≡ x = omega arith in
     let is : stored b at 8 (low_bytes 8 x) ≡ b1 = compare_stored b h (low_bytes 8 x) (omega arith) (omega arith) ∙ ap (λ w. record b { clint = record b.clint { mtimecmp = slice_set b.clint.mtimecmp h w } }) kept in
     run_on n ram known b b1 b' (Save Double x 7 (pos (8 * h)) at) (compare_deeds k (suc h) xs rest)
-    (small, reached n known Double 7 (pos (8 * h)) at 0x2004000 points.seven_is (omega arith) (omega arith) (omega arith) (up (8 * h) (omega arith)) (omega arith) (omega arith) (omega arith) (compare_listed n h (omega arith) most), unsent_below ram b at 8 (low_bytes 8 x) (omega arith))
+    (small, reached n known Double 7 (pos (8 * h)) at 0x2004000 points.seven_is (omega arith) (omega arith) (omega arith) (up (8 * h) (omega arith)) (omega arith) (compare_listed n h (omega arith) most), unsent_below ram b at 8 (low_bytes 8 x) (omega arith))
     is
     (compare_runs k (suc h) xs rest n ram five (cond (x == 0) known (knows 6 x known)) b1 b' (points_six (x == 0) five 0x2004000 x known points) (omega arith) most count fits then_rest)

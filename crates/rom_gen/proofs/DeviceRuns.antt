@@ -73,7 +73,7 @@ marks_runs c enables thresholds m rest n ram known b' fits some most count then_
     let v3 : ℕ = extended 1 (board_device b7 0x10000000 1) in
     let known7 : Known = knows 6 v3 known6 in
     let points7 : Points 0xc200000 seven known7 = points_six false 0xc200000 seven v3 known6 points6 in
-    let claim : (k : Known) → Points 0xc200000 seven k → IsReached n k Word 5 (pos 4) 0xc200004 = λ k p. reached n k Word 5 (pos 4) 0xc200004 0xc200000 p.five_is (omega arith) (omega arith) (omega arith) (up 4 (omega arith)) refl refl (omega arith) (claim_listed n some) in
+    let claim : (k : Known) → Points 0xc200000 seven k → IsReached n k Word 5 (pos 4) 0xc200004 = λ k p. reached n k Word 5 (pos 4) 0xc200004 0xc200000 p.five_is (omega arith) (omega arith) (omega arith) (up 4 (omega arith)) refl (claim_listed n some) in
     let ds9 : List Deed = Read Byte 2 (pos 0) 0x10000000 ∷ rest in
     let ds8 : List Deed = Read Word 5 (pos 4) 0xc200004 ∷ ds9 in
     let ds7 : List Deed = Read Word 5 (pos 4) 0xc200004 ∷ ds8 in
@@ -84,30 +84,30 @@ marks_runs c enables thresholds m rest n ram known b' fits some most count then_
     let set_m : stored b2 0xc002000 4 (low_bytes 4 m) ≡ b3 = enable_stored b2 0 (low_bytes 4 m) (omega arith) (omega arith) ∙ ap (λ w. record b0 { plic = record b0.plic { priority = 1 ∷ 1 ∷ []; enable = slice_set enables 0 w } }) (enable_twice m fits) in
     let read3 : Runs n ram known6 b7 ds9 b' =
     run_on n ram known6 b7 b8 b' (Read Byte 2 (pos 0) 0x10000000) rest
-    (reached n known6 Byte 2 (pos 0) 0x10000000 0x10000000 points6.two (omega arith) (omega arith) (omega arith) (up 0 (omega arith)) refl refl (omega arith) (data_listed n))
+    (reached n known6 Byte 2 (pos 0) 0x10000000 0x10000000 points6.two (omega arith) (omega arith) (omega arith) (up 0 (omega arith)) refl (data_listed n))
     (data_taken c enables thresholds m) (then_rest 0xc200000 seven known7 points7) in
     let read2 : Runs n ram known5 b6 ds8 b' =
     run_on n ram known5 b6 b7 b' (Read Word 5 (pos 4) 0xc200004) ds9 (claim known5 points5) (marks_set c enables thresholds m (omega arith) (omega arith) fits) read3 in
     let read1 : Runs n ram known4 b5 ds7 b' = (claim known4 points4, read2) in
     let fill : Runs n ram known4 b4 ds6 b' =
     run_on n ram known4 b4 b5 b' (Save Byte 0 2 (pos 0) 0x10000000) ds7
-    (omega arith, reached n known4 Byte 2 (pos 0) 0x10000000 0x10000000 points4.two (omega arith) (omega arith) (omega arith) (up 0 (omega arith)) refl refl (omega arith) (data_listed n), unsent ram b4 0 refl)
+    (omega arith, reached n known4 Byte 2 (pos 0) 0x10000000 0x10000000 points4.two (omega arith) (omega arith) (omega arith) (up 0 (omega arith)) refl (data_listed n), unsent ram b4 0 refl)
     (looped b4 0 refl (omega arith)) read1 in
     let loop : Runs n ram known3 b3 ds5 b' =
     run_on n ram known3 b3 b4 b' (Save Word 7 2 (pos 8) 0x10000008) ds6
-    (omega arith, reached n known3 Word 2 (pos 8) 0x10000008 0x10000000 points3.two (omega arith) (omega arith) (omega arith) (up 8 (omega arith)) refl refl (omega arith) (ctrl_listed n), ctrl_unsent ram b3 7)
+    (omega arith, reached n known3 Word 2 (pos 8) 0x10000008 0x10000000 points3.two (omega arith) (omega arith) (omega arith) (up 8 (omega arith)) refl (ctrl_listed n), ctrl_unsent ram b3 7)
     (ctrl_stored b3 7) fill in
     let enable : Runs n ram known2 b2 ds4 b' =
     run_on n ram known2 b2 b3 b' (Save Word m 4 (pos 0) 0xc002000) ds5
-    (omega arith, reached n known2 Word 4 (pos 0) 0xc002000 0xc002000 points2.four (omega arith) (omega arith) (omega arith) (up 0 (omega arith)) refl refl (omega arith) (enable_listed n 0 (omega arith) (omega arith)), unsent_below ram b2 0xc002000 4 (low_bytes 4 m) (omega arith))
+    (omega arith, reached n known2 Word 4 (pos 0) 0xc002000 0xc002000 points2.four (omega arith) (omega arith) (omega arith) (up 0 (omega arith)) refl (enable_listed n 0 (omega arith) (omega arith)), unsent_below ram b2 0xc002000 4 (low_bytes 4 m) (omega arith))
     set_m loop in
     let second : Runs n ram known2 b1 ds3 b' =
     run_on n ram known2 b1 b2 b' (Again Word 1 3 (pos 8) 0xc000008) ds4
-    (refl, reached n known2 Word 3 (pos 8) 0xc000008 0xc000000 points2.three (omega arith) (omega arith) (omega arith) (up 8 (omega arith)) refl refl (omega arith) (second_listed n), unsent_below ram b1 0xc000008 4 1 (omega arith))
+    (refl, reached n known2 Word 3 (pos 8) 0xc000008 0xc000000 points2.three (omega arith) (omega arith) (omega arith) (up 8 (omega arith)) refl (second_listed n), unsent_below ram b1 0xc000008 4 1 (omega arith))
     (priority_second b1 1) enable in
     let first : Runs n ram known1 b0 (Save Word 1 3 (pos 4) 0xc000004 ∷ ds3) b' =
     run_on n ram known1 b0 b1 b' (Save Word 1 3 (pos 4) 0xc000004) ds3
-    (omega arith, reached n known1 Word 3 (pos 4) 0xc000004 0xc000000 points1.three (omega arith) (omega arith) (omega arith) (up 4 (omega arith)) refl refl (omega arith) (first_listed n), unsent_below ram b0 0xc000004 4 1 (omega arith))
+    (omega arith, reached n known1 Word 3 (pos 4) 0xc000004 0xc000000 points1.three (omega arith) (omega arith) (omega arith) (up 4 (omega arith)) refl (first_listed n), unsent_below ram b0 0xc000004 4 1 (omega arith))
     (priority_first b0 1) second in
     ((omega arith, omega arith, omega arith, refl), ((omega arith, omega arith, omega arith, refl), ((omega arith, omega arith, omega arith, refl), ((omega arith, omega arith, omega arith, refl), first))))
 
@@ -142,7 +142,7 @@ timer_runs target n ram five seven known b fit count points soft_count compare_c
     let last : (known : Known) → Points 0x2000000 0x2004000 known → Runs n ram known b2 (Aim 5 0x200c000 ∷ Save Double time 5 (negsuc 7) 0x200bff8 ∷ []) b' = λ known p. (
       (omega arith, omega arith, omega arith, refl),
       run_on n ram (knows 5 0x200c000 known) b2 b' b' (Save Double time 5 (negsuc 7) 0x200bff8) []
-          (time_small, reached n (knows 5 0x200c000 known) Double 5 (negsuc 7) 0x200bff8 0x200c000 refl (omega arith) (omega arith) (omega arith) (omega (arith, ints), omega (arith, ints)) refl refl (omega arith) (time_listed n), unsent_below ram b2 0x200bff8 8 (low_bytes 8 time) (omega arith))
+          (time_small, reached n (knows 5 0x200c000 known) Double 5 (negsuc 7) 0x200bff8 0x200c000 refl (omega arith) (omega arith) (omega arith) (omega (arith, ints), omega (arith, ints)) refl (time_listed n), unsent_below ram b2 0x200bff8 8 (low_bytes 8 time) (omega arith))
           is refl,
     ) in
     let compares : (known : Known) → Points 0x2000000 seven known → Runs n ram known b1 (Aim 7 0x2004000 ∷ compare_deeds (hart_count target.clint) 0 target.clint.mtimecmp (Aim 5 0x200c000 ∷ Save Double time 5 (negsuc 7) 0x200bff8 ∷ [])) b' = λ known p. (
@@ -208,10 +208,10 @@ kept_runs target n ram five seven known c enables thresholds fit count points so
     let known2 : Known = cond (tx == 0) known1 (knows 6 tx known1) in
     let points2 : Points five seven known2 = points_six (tx == 0) five seven tx known1 points1 in
     run_on n ram known b4 b5 target (Save Word ctrl 2 (pos 8) 0x10000008) ds5
-    (omega arith, reached n known Word 2 (pos 8) 0x10000008 0x10000000 p.two (omega arith) (omega arith) (omega arith) (up 8 (omega arith)) refl refl (omega arith) (ctrl_listed n), ctrl_unsent ram b4 (low_bytes 4 ctrl))
+    (omega arith, reached n known Word 2 (pos 8) 0x10000008 0x10000000 p.two (omega arith) (omega arith) (omega arith) (up 8 (omega arith)) refl (ctrl_listed n), ctrl_unsent ram b4 (low_bytes 4 ctrl))
     is5
     (run_on n ram known1 b5 b6 target (Save Double tx 2 (pos 16) 0x10000010) ds6
-    (tx_small, reached n known1 Double 2 (pos 16) 0x10000010 0x10000000 points1.two (omega arith) (omega arith) (omega arith) (up 16 (omega arith)) refl refl (omega arith) (txaddr_listed n), txaddr_unsent ram b5 (low_bytes 8 tx))
+    (tx_small, reached n known1 Double 2 (pos 16) 0x10000010 0x10000000 points1.two (omega arith) (omega arith) (omega arith) (up 16 (omega arith)) refl (txaddr_listed n), txaddr_unsent ram b5 (low_bytes 8 tx))
     is6
     (subst (λ x. Runs n ram known2 b6 ds6 x) end (timer_runs target n ram five seven known2 b6 fit count points2 soft_count compare_count))) in
     let priorities : (known : Known) → Points five seven known → Runs n ram known b1 (Save Word p1 3 (pos 4) 0xc000004 ∷ ds2) target = λ known p.
@@ -220,10 +220,10 @@ kept_runs target n ram five seven known c enables thresholds fit count points so
     let known2 : Known = cond (p2 == 0) known1 (knows 6 p2 known1) in
     let points2 : Points five seven known2 = points_six (p2 == 0) five seven p2 known1 points1 in
     run_on n ram known b1 b2 target (Save Word p1 3 (pos 4) 0xc000004) ds2
-    (omega arith, reached n known Word 3 (pos 4) 0xc000004 0xc000000 p.three (omega arith) (omega arith) (omega arith) (up 4 (omega arith)) refl refl (omega arith) (first_listed n), unsent_below ram b1 0xc000004 4 (low_bytes 4 p1) (omega arith))
+    (omega arith, reached n known Word 3 (pos 4) 0xc000004 0xc000000 p.three (omega arith) (omega arith) (omega arith) (up 4 (omega arith)) refl (first_listed n), unsent_below ram b1 0xc000004 4 (low_bytes 4 p1) (omega arith))
     is2
     (run_on n ram known1 b2 b3 target (Save Word p2 3 (pos 8) 0xc000008) ds3
-    (omega arith, reached n known1 Word 3 (pos 8) 0xc000008 0xc000000 points1.three (omega arith) (omega arith) (omega arith) (up 8 (omega arith)) refl refl (omega arith) (second_listed n), unsent_below ram b2 0xc000008 4 (low_bytes 4 p2) (omega arith))
+    (omega arith, reached n known1 Word 3 (pos 8) 0xc000008 0xc000000 points1.three (omega arith) (omega arith) (omega arith) (up 8 (omega arith)) refl (second_listed n), unsent_below ram b2 0xc000008 4 (low_bytes 4 p2) (omega arith))
     is3
     (context_runs (context_count target.plic) 0 target.plic.enable target.plic.threshold ds4 n ram five seven known2 b3 target points2 (omega arith) most enables_count
     (λ i k. fit.plic.enables i 0 (omega arith)) (λ i k. fit.plic.thresholds i 0 (let e = fit.plic.same in omega arith)) sends)) in

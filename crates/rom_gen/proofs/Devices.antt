@@ -19,6 +19,7 @@ use Rattle.hart_step.specs.Memory.{MemoryState, from_device, data_address, from_
 use Rattle.hart_step.specs.Effects.{at_pc, effect, goes_on, pc_after, resumed, shows_nothing, shows_store, stores_at, stores_from}
 use Rattle.hart_step.specs.Step.{hart_step, shows}
 use Rattle.rom_gen.specs.Items.{Stands}
+use Rattle.rom_gen.proofs.DevicePlaces.{device_place}
 use Rattle.rom_gen.proofs.Fetch.{room}
 use Rattle.rom_gen.proofs.Joins.{Does}
 use Rattle.rom_gen.proofs.Steps.{at_word, does_effect}
@@ -29,15 +30,17 @@ unfolding translated
 data_untranslated kind size hart ram va debugs aligned = rw (eq-eqb (va % size) 0 aligned, debugs) refl
 
 -- a store to a device register
-pub stores_device : (n size value : ℕ) (hart : Hart) (memory : MemoryState) (va : ℕ) → is_in_debug hart ≡ true → va % size ≡ 0 → va < base → is_listed n va size ≡ true →
+pub stores_device : (n size value : ℕ) (hart : Hart) (memory : MemoryState) (va : ℕ) → is_in_debug hart ≡ true → is_listed n va size ≡ true →
     stores_at n size value 4 va hart memory ≡ record { hart = at_pc hart (pc_after hart 4); memory = memory; shown = Ok (shows_store va size value); access = Stores va size (low_bytes size value) }
-stores_device n size value hart memory va debugs aligned below listed =
+stores_device n size value hart memory va debugs listed =
+    let (aligned, below) = device_place n va size listed in
     let not_ram : nat_le base va ≡ false = lt-leb _ _ below in
     ap (λ a. stores_from n size value 4 va a hart memory) (data_untranslated Kind.Store size hart memory.ram va debugs aligned) ∙ rw (not_ram, listed) refl
 
 -- a load from a device register
-pub loads_device : (given : Given) (n size : ℕ) (hart : Hart) (memory : MemoryState) (va : ℕ) → is_in_debug hart ≡ true → va % size ≡ 0 → va < base → is_listed n va size ≡ true → loaded given n hart memory size va ≡ Ok (from_device given va size)
-loads_device given n size hart memory va debugs aligned below listed =
+pub loads_device : (given : Given) (n size : ℕ) (hart : Hart) (memory : MemoryState) (va : ℕ) → is_in_debug hart ≡ true → is_listed n va size ≡ true → loaded given n hart memory size va ≡ Ok (from_device given va size)
+loads_device given n size hart memory va debugs listed =
+    let (aligned, below) = device_place n va size listed in
     let not_ram : nat_le base va ≡ false = lt-leb _ _ below in
     ap (loaded_from given n hart memory size va) (data_untranslated Kind.Load size hart memory.ram va debugs aligned) ∙ rw (not_ram, listed) refl
 

@@ -10,7 +10,6 @@ use Rattle.rv_alu.specs.declared.BinOp.{BinOp}
 use Rattle.rv_decode.specs.declared.Insn.{Insn}
 use Rattle.rv_decode.specs.Encode.{encoded}
 use Rattle.rv_decode.specs.Ranges.{IsInRange, IsMultiple, IsSigned}
-use Rattle.guest_ram.specs.Bytes.{base}
 use Rattle.board_bus.specs.Listed.{is_listed as is_device, place_of}
 use Rattle.hart_step.specs.declared.hart.Hart.{Hart}
 use Rattle.hart_step.specs.Answers.{Given, Loads, Stores, Untouched}
@@ -145,10 +144,10 @@ store_effect given Double n word r at off hart memory = refl
 
 -- a store of any width
 pub store_step : (w : Width) (given : Given) (n h : ℕ) (hart : Hart) (memory : MemoryState) (p r at : ℕ) (off : ℤ) (rest : List ℕ) → Stands memory hart p →
-    given.interrupt ≡ None → r < 32 → at < 32 → IsSigned 12 off → offset_by (register hart at) off % size_of w ≡ 0 → offset_by (register hart at) off < base →
+    given.interrupt ≡ None → r < 32 → at < 32 → IsSigned 12 off →
     is_device n (offset_by (register hart at) off) (size_of w) ≡ true → drop p memory.rom ≡ little_bytes 4 (encoded (store_insn w at r off)) ++ rest →
     Does memory (hart_step given n h hart memory) (Some (record { at = offset_by (register hart at) off; size = size_of w; value = low_bytes (size_of w) (register hart r) })) (at_pc hart (pc_after hart 4)) (Stores (offset_by (register hart at) off) (size_of w) (low_bytes (size_of w) (register hart r)))
-store_step w given n h hart memory p r at off rest stands none r_fits at_fits is_signed aligned below device there =
+store_step w given n h hart memory p r at off rest stands none r_fits at_fits is_signed device there =
     let word : ℕ = encoded (store_insn w at r off) in
     let va : ℕ = offset_by (register hart at) off in
     let next : Hart = at_pc hart (pc_after hart 4) in
@@ -157,7 +156,7 @@ store_step w given n h hart memory p r at off rest stands none r_fits at_fits is
     let e : Effect = record { hart = next; memory = memory; shown = Ok (shows_store va s v); access = Stores va s (low_bytes s v) } in
     subst (λ a. Does memory a (Some (record { at = va; size = s; value = low_bytes s v })) next (Stores va s (low_bytes s v)))
     (sym (at_word given n h hart memory p rest (store_insn w at r off) stands none (store_range w r at off r_fits at_fits is_signed) (store_word w r at off r_fits at_fits) there
-    ∙ ap (shows h hart word) (store_effect given w n word r at off hart memory ∙ stores_device n s v hart memory va stands.debugs aligned below device)))
+    ∙ ap (shows h hart word) (store_effect given w n word r at off hart memory ∙ stores_device n s v hart memory va stands.debugs device)))
     (does_effect h hart next memory word e (shows_store va s v) (Stores va s (low_bytes s v)) stands.debugs refl refl refl refl)
 
 -- ---- lbu and lw from a device register
@@ -194,15 +193,15 @@ load_effect given Double n word r at off hart memory e = rw e refl
 
 -- and a load
 pub load_step : (w : Width) (given : Given) (n h : ℕ) (hart : Hart) (memory : MemoryState) (p r at : ℕ) (off : ℤ) (rest : List ℕ) → Stands memory hart p →
-    given.interrupt ≡ None → r < 32 → at < 32 → IsSigned 12 off → offset_by (register hart at) off % size_of w ≡ 0 → offset_by (register hart at) off < base →
+    given.interrupt ≡ None → r < 32 → at < 32 → IsSigned 12 off →
     is_device n (offset_by (register hart at) off) (size_of w) ≡ true → drop p memory.rom ≡ little_bytes 4 (encoded (load_insn w r at off)) ++ rest →
     Does memory (hart_step given n h hart memory) None (with_write hart r (extended (size_of w) (given.device (offset_by (register hart at) off) (size_of w))) (pc_after hart 4)) (Loads (offset_by (register hart at) off) (size_of w))
-load_step w given n h hart memory p r at off rest stands none r_fits at_fits is_signed aligned below device there =
+load_step w given n h hart memory p r at off rest stands none r_fits at_fits is_signed device there =
     let word : ℕ = encoded (load_insn w r at off) in
     let va : ℕ = offset_by (register hart at) off in
     let s : ℕ = size_of w in
     let e : Effect = load_effect_of given va s r hart memory in
     subst (λ a. Does memory a None e.hart (Loads va s))
     (sym (at_word given n h hart memory p rest (load_insn w r at off) stands none (load_range w r at off r_fits at_fits is_signed) (load_word w r at off r_fits at_fits) there
-    ∙ ap (shows h hart word) (load_effect given w n word r at off hart memory (loads_device given n s hart memory va stands.debugs aligned below device))))
+    ∙ ap (shows h hart word) (load_effect given w n word r at off hart memory (loads_device given n s hart memory va stands.debugs device))))
     (does_effect h hart e.hart memory word e (load_done given va s r) (Loads va s) stands.debugs refl refl refl refl)

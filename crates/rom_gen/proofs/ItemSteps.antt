@@ -142,20 +142,20 @@ item_steps b h p block _ _ inside stands (csr_imm num u u_fits num_fits writable
     let hart : Hart = hart_of b.core h in
     leads_quiet b h hart (hart_after 1 (CsrImm num u) hart) inside refl stands.debugs (written_debugs num u hart.csrs stands.debugs)
     (λ given none. csr_imm_step given (length b.core.harts) h hart (memory_of b.core) p num u there.0 stands none u_fits num_fits writable there.1)
-item_steps b h p block _ _ inside stands (store w r at off r_fits at_fits is_signed aligned below device) there =
+item_steps b h p block _ _ inside stands (store w r at off r_fits at_fits is_signed device) there =
     let hart : Hart = hart_of b.core h in
     let va : ℕ = offset_by (register hart at) off in
     let s : ℕ = size_of w in
     leads_at b h hart (at_pc hart (pc_after hart 4)) (Some (record { at = va; size = s; value = low_bytes s (register hart r) })) (Stores va s (low_bytes s (register hart r))) inside refl stands.debugs stands.debugs
-    (λ given none. store_step w given (length b.core.harts) h hart (memory_of b.core) p r at off there.0 stands none r_fits at_fits is_signed aligned below device there.1)
-item_steps b h p block _ _ inside stands (load w r at off some r_fits at_fits is_signed aligned below device) there =
+    (λ given none. store_step w given (length b.core.harts) h hart (memory_of b.core) p r at off there.0 stands none r_fits at_fits is_signed device there.1)
+item_steps b h p block _ _ inside stands (load w r at off some r_fits at_fits is_signed device) there =
     let hart : Hart = hart_of b.core h in
     let va : ℕ = offset_by (register hart at) off in
     let s : ℕ = size_of w in
     let next : Hart = with_write hart r (extended s (board_device b.board va s)) (pc_after hart 4) in
     subst (λ x. Leads h 1 b x) (quiet_load b h va s next)
     (leads_given b h hart next None (Loads va s) inside refl stands.debugs (debugs_put hart r _ (pc_after hart 4) some stands.debugs)
-    (load_step w (board_gives b.board h hart) (length b.core.harts) h hart (memory_of b.core) p r at off there.0 stands (unpicked hart.csrs hart.mode _ stands.debugs) r_fits at_fits is_signed aligned below device there.1))
+    (load_step w (board_gives b.board h hart) (length b.core.harts) h hart (memory_of b.core) p r at off there.0 stands (unpicked hart.csrs hart.mode _ stands.debugs) r_fits at_fits is_signed device there.1))
 item_steps b h p block _ _ inside stands (go r r_fits fits) there =
     let hart : Hart = hart_of b.core h in
     leads_quiet b h hart (hart_after 1 (Go r) hart) inside refl stands.debugs stands.debugs
@@ -185,13 +185,13 @@ stands_after b h p block _ _ inside stands (pair r v high low some r_fits high_f
 stands_after b h p block _ _ inside stands (pooled r v off some r_fits fits near aligned at pool) within stays = stands_becomes b h 1 (p + 4) _ inside (stands_put (memory_of b.core) (hart_of b.core h) p 4 r v stands some within)
 stands_after b h p block _ _ inside stands (csr num r r_fits num_fits writable) within stays = stands_becomes b h 1 (p + 4) _ inside (stands_on (memory_of b.core) (hart_of b.core h) p 4 (written num (register (hart_of b.core h) r) (hart_of b.core h).csrs) stands (written_debugs num (register (hart_of b.core h) r) (hart_of b.core h).csrs stands.debugs) within)
 stands_after b h p block _ _ inside stands (csr_imm num u u_fits num_fits writable) within stays = stands_becomes b h 1 (p + 4) _ inside (stands_on (memory_of b.core) (hart_of b.core h) p 4 (written num u (hart_of b.core h).csrs) stands (written_debugs num u (hart_of b.core h).csrs stands.debugs) within)
-stands_after b h p block _ _ inside stands (store w r at off r_fits at_fits is_signed aligned below device) within stays =
+stands_after b h p block _ _ inside stands (store w r at off r_fits at_fits is_signed device) within stays =
     let hart : Hart = hart_of b.core h in
     let put : Option Stored = Some (record { at = offset_by (register hart at) off; size = size_of w; value = low_bytes (size_of w) (register hart r) }) in
     let harts : List Hart = after_store put b.core.harts in
     let inside1 : h < length harts = omega (arith, length-after put b.core.harts) in
     subst (λ x. Stands (memory_of b.core) x (p + 4)) (sym (get_or-set_same harts h (at_pc hart (pc_after hart 4)) (reset_hart 0 0) inside1)) (stands_on (memory_of b.core) hart p 4 hart.csrs stands stands.debugs within)
-stands_after b h p block _ _ inside stands (load w r at off some r_fits at_fits is_signed aligned below device) within stays =
+stands_after b h p block _ _ inside stands (load w r at off some r_fits at_fits is_signed device) within stays =
     stands_becomes b h 1 (p + 4) _ inside (stands_put (memory_of b.core) (hart_of b.core h) p 4 r _ stands some within)
 stands_after b h p block _ _ inside stands (go r r_fits fits) within stays = absurd stays
 stands_after b h p block _ _ inside stands leave within stays = absurd stays
@@ -236,8 +236,8 @@ some_words (pair r v high low some r_fits high_fits multiple low_fits is) = omeg
 some_words (pooled r v off some r_fits fits near aligned at pool) = omega arith
 some_words (csr num r r_fits num_fits writable) = omega arith
 some_words (csr_imm num u u_fits num_fits writable) = omega arith
-some_words (store w r at off r_fits at_fits is_signed aligned below device) = omega arith
-some_words (load w r at off some r_fits at_fits is_signed aligned below device) = omega arith
+some_words (store w r at off r_fits at_fits is_signed device) = omega arith
+some_words (load w r at off some r_fits at_fits is_signed device) = omega arith
 some_words (go r r_fits fits) = omega arith
 some_words leave = omega arith
 

@@ -2,7 +2,6 @@
 use Rattle.std.specs.Prelude.{◌≡◌, ◌≢◌, ℕ, ℤ, ◌%◌, ◌^◌, ◌<◌, ◌==◌, if◌then◌else◌, true, List, [], ◌∷◌}
 use Rattle.rv_alu.specs.Bits.{low_bytes}
 use Rattle.rv_decode.specs.Ranges.{IsSigned}
-use Rattle.guest_ram.specs.Bytes.{base}
 use Rattle.board_bus.specs.Board.{BoardState, after_load, sent, stored}
 use Rattle.board_bus.specs.Listed.{is_listed}
 use Rattle.hart_step.specs.Effects.{offset_by}
@@ -37,8 +36,6 @@ pub record IsReached (n : ℕ) (known : Known) (w : Width) (by : ℕ) (off : ℤ
   pub other : by ≢ 6
   pub short : IsSigned 12 off
   pub place : offset_by (known by) off ≡ at
-  pub aligned : at % size_of w ≡ 0
-  pub below : at < base
   pub listed : is_listed n at (size_of w) ≡ true
 
 abbrev pub IsSound : ℕ → List ℕ → Known → BoardState → Deed → Type 0

@@ -7,7 +7,6 @@ use Rattle.rv_decode.specs.declared.Insn.{Insn}
 use Rattle.rv_decode.specs.Encode.{encoded}
 use Rattle.rv_decode.specs.Ranges.{IsSigned, IsMultiple}
 use Rattle.csr_file.specs.Numbers.{is_listed, is_read_only}
-use Rattle.guest_ram.specs.Bytes.{base}
 use Rattle.board_bus.specs.Listed.{is_listed as is_device}
 use Rattle.hart_step.specs.declared.hart.Hart.{Hart}
 use Rattle.hart_step.specs.Harts.{is_in_debug, register}
@@ -86,9 +85,9 @@ pub data Spelled (n : ℕ) (memory : MemoryState) (hart : Hart) (block : ℕ) : 
   -- csrrw, csrrwi to x0
   csr : (num r : ℕ) → r < 32 → num < 4096 → is_writable num ≡ true → Spelled n memory hart block (Csr num r) (Insn.Csrrw 0 r num ∷ [])
   csr_imm : (num u : ℕ) → u < 32 → num < 4096 → is_writable num ≡ true → Spelled n memory hart block (CsrImm num u) (Insn.Csrrwi 0 u num ∷ [])
-  -- a store or a load of the width, at the aligned address of a device register
-  store : (w : Width) (r at : ℕ) (off : ℤ) → r < 32 → at < 32 → IsSigned 12 off → offset_by (register hart at) off % size_of w ≡ 0 → offset_by (register hart at) off < base → is_device n (offset_by (register hart at) off) (size_of w) ≡ true → Spelled n memory hart block (Store (size_of w) r at off) (store_insn w at r off ∷ [])
-  load : (w : Width) (r at : ℕ) (off : ℤ) → 0 < r → r < 32 → at < 32 → IsSigned 12 off → offset_by (register hart at) off % size_of w ≡ 0 → offset_by (register hart at) off < base → is_device n (offset_by (register hart at) off) (size_of w) ≡ true → Spelled n memory hart block (Load (size_of w) r at off) (load_insn w r at off ∷ [])
+  -- a store or a load of the width, at the address of a device register (each stands at a multiple of its size, below RAM)
+  store : (w : Width) (r at : ℕ) (off : ℤ) → r < 32 → at < 32 → IsSigned 12 off → is_device n (offset_by (register hart at) off) (size_of w) ≡ true → Spelled n memory hart block (Store (size_of w) r at off) (store_insn w at r off ∷ [])
+  load : (w : Width) (r at : ℕ) (off : ℤ) → 0 < r → r < 32 → at < 32 → IsSigned 12 off → is_device n (offset_by (register hart at) off) (size_of w) ≡ true → Spelled n memory hart block (Load (size_of w) r at off) (load_insn w r at off ∷ [])
   -- jalr to x0
   go : (r : ℕ) → r < 32 → register hart r < 2 ^ 64 → Spelled n memory hart block (Go r) (Insn.Jalr 0 r (pos 0) ∷ [])
   -- dret
