@@ -1,35 +1,207 @@
--- What follows from a call's answer, and from what is told.
-use Rattle.std.proofs.Common.{◌≡◌, ℕ, Option, Some, None, Result, Ok, Err, IfOk, IfSome, subst, ◌∙◌}
-use Rattle.std.specs.Prelude.{IfErr}
+-- From the status before the report to the one that is answered.
+use Rattle.std.proofs.Common.{◌≡◌, ℕ, List, [], length, take, Option, Some, None, Result, Ok, Err, IfSome, refl, sym, ap, subst, ◌∙◌, inl, inr, arith}
+use Rattle.std.proofs.lemmas.List.{take_all}
+use Rattle.std.specs.Io.KnownBytes.{Appends}
 use Rattle.outside_io.specs.Causes.{Rose}
+use Rattle.outside_io.specs.Content.{Held}
+use Rattle.job_words.specs.Job.{Job, Turns, Work}
+use Rattle.outside_acts.specs.declared.Stop.{Stop}
+use Rattle.outside_acts.specs.Acts.{Did, sent}
+use Rattle.outside_acts.specs.World.{Counted, Reading, Writing, TheInput, Console, Counts, NonePassedOver, World}
+use Rattle.outside_acts.proofs.Algebra.{front_written, sent_none}
 use Rattle.dromajo.specs.declared.status.Status.{Status}
 use Rattle.dromajo.specs.declared.status.Status.TheVariants.{Done, Usage, BadConfig, BadElf, ReadFault, WriteFault, NoMemory, GuestEnded, BadHostWord}
 use Rattle.dromajo.specs.declared.status.Which.TheVariants.{Files, Input, Out, Report}
-use Rattle.dromajo.specs.Program.{IsRefused}
+use Rattle.dromajo.specs.Classes.{Class, Refused, Ended, Failed, Unreported, Starved, Never, IsBefore, IsFinished, IsRefusal, IsSettled, IsUsage, before_by, caused, class_of, fails, finishes, settles}
+use Rattle.dromajo.specs.Jobs.{Begun, IsBegunOutcome, IsOutcome, Outcome, begun, ended}
+use Rattle.dromajo.specs.TopCall.{AnswersRefusal, DidOutcome, HasCause, HasJobCause, JobEnds, JobLeaves, JobStops, Leaves, SendsFront, SentFront, cause_by, leaves_by}
 
-pub told_map : {C : Type 0} (P Q : C → Type 0) (told : Option C) → ((c : C) → P c → Q c) → IfSome told P → IfSome told Q
-told_map P Q None step p = tt
-told_map P Q (Some c) step p = step c p
+-- ---- the one status of a class
 
-pub ok_map : {T E : Type 0} (P Q : T → Type 0) (result : Result T E) → ((t : T) → P t → Q t) → IfOk result P → IfOk result Q
-ok_map P Q (Ok t) step p = step t p
-ok_map P Q (Err e) step p = tt
+pub is_unreported : (status : Status) → class_of status ≡ Unreported → status ≡ WriteFault Report
+is_unreported Done is = cc
+is_unreported Usage is = cc
+is_unreported (BadConfig fault) is = cc
+is_unreported (BadElf fault) is = cc
+is_unreported (ReadFault Files) is = cc
+is_unreported (ReadFault Input) is = cc
+is_unreported (ReadFault Out) is = cc
+is_unreported (ReadFault Report) is = cc
+is_unreported (WriteFault Files) is = cc
+is_unreported (WriteFault Input) is = cc
+is_unreported (WriteFault Out) is = cc
+is_unreported (WriteFault Report) is = refl
+is_unreported NoMemory is = cc
+is_unreported (GuestEnded code turn) is = cc
+is_unreported (BadHostWord word turn) is = cc
 
-pub err_map : {T E : Type 0} (P Q : E → Type 0) (result : Result T E) → ((e : E) → P e → Q e) → IfErr result P → IfErr result Q
-err_map P Q (Ok t) step p = tt
-err_map P Q (Err e) step p = step e p
+pub is_starved : (status : Status) → class_of status ≡ Starved → status ≡ NoMemory
+is_starved Done is = cc
+is_starved Usage is = cc
+is_starved (BadConfig fault) is = cc
+is_starved (BadElf fault) is = cc
+is_starved (ReadFault Files) is = cc
+is_starved (ReadFault Input) is = cc
+is_starved (ReadFault Out) is = cc
+is_starved (ReadFault Report) is = cc
+is_starved (WriteFault Files) is = cc
+is_starved (WriteFault Input) is = cc
+is_starved (WriteFault Out) is = cc
+is_starved (WriteFault Report) is = cc
+is_starved NoMemory is = refl
+is_starved (GuestEnded code turn) is = cc
+is_starved (BadHostWord word turn) is = cc
 
--- a refusal for one reason is one for what follows from it, also from an earlier count that was the same
-pub refused_on : (status : Status) (X Y : Type 0) (first before now : ℕ) → before ≡ first → (X → Y) → IsRefused status X before now → IsRefused status Y first now
-refused_on (BadConfig fault) X Y first before now same step why = (why.0, step why.1, why.2 ∙ same)
-refused_on (BadElf fault) X Y first before now same step why = (step why.0, why.1 ∙ same)
-refused_on (ReadFault Files) X Y first before now same step why = subst (λ (n : ℕ). Rose n now) same why
-refused_on (ReadFault Input) X Y first before now same step why = absurd why
-refused_on (ReadFault Out) X Y first before now same step why = absurd why
-refused_on (ReadFault Report) X Y first before now same step why = absurd why
-refused_on NoMemory X Y first before now same step why = why ∙ same
-refused_on Done X Y first before now same step why = absurd why
-refused_on Usage X Y first before now same step why = absurd why
-refused_on (WriteFault which) X Y first before now same step why = absurd why
-refused_on (GuestEnded code turn) X Y first before now same step why = absurd why
-refused_on (BadHostWord word turn) X Y first before now same step why = absurd why
+-- ---- a finished call
+
+still_settled : (class : Class) (before answered : Status) → class ≡ class_of answered → finishes class → before_by class before answered → IsSettled before
+still_settled Refused before answered is finished same = subst settles (is ∙ ap class_of (sym same)) tt
+still_settled Ended before answered is finished same = subst settles (is ∙ ap class_of (sym same)) tt
+still_settled (Failed counted) before answered is finished same = absurd finished
+still_settled Unreported before answered is finished same = subst IsSettled (sym same) tt
+still_settled Starved before answered is finished same = absurd finished
+still_settled Never before answered is finished same = absurd finished
+
+pub finished_settled : (before answered : Status) → IsFinished answered → IsBefore before answered → IsSettled before
+finished_settled before answered finished same = still_settled (class_of answered) before answered refl finished same
+
+settled_ends : (class : Class) (job : Option Job) (held : Held) (input : List ℕ) (status : Status) (line : List ℕ) (a b : World) → settles class → leaves_by class job held input status line a b → JobEnds job held input status line a b
+settled_ends Refused job held input status line a b settled left = left
+settled_ends Ended job held input status line a b settled left = left
+settled_ends (Failed counted) job held input status line a b settled left = absurd settled
+settled_ends Unreported job held input status line a b settled left = absurd settled
+settled_ends Starved job held input status line a b settled left = absurd settled
+settled_ends Never job held input status line a b settled left = absurd settled
+
+did_outcome : (job : Option Job) (held : Held) (input : List ℕ) (before answered : Status) (line : List ℕ) (a b : World) → IsBefore before answered → JobEnds job held input before line a b → DidOutcome job held input answered a b
+did_outcome job held input before answered line a b same ends = record {
+  outcome = ends.outcome;
+  is = ends.is;
+  status = subst (λ (s : Status). IsBefore s answered) ends.status_is same;
+  did = ends.did;
+}
+
+over : (h : Option Held) (l : Option (List ℕ)) (Says Also : Held → List ℕ → Type 0) → ((held : Held) (input : List ℕ) → Says held input → Also held input) → IfSome h (λ held. IfSome l (λ input. Says held input)) → IfSome h (λ held. IfSome l (λ input. Also held input))
+over None l Says Also step says = tt
+over (Some held) None Says Also step says = tt
+over (Some held) (Some input) Says Also step says = step held input says
+
+pub finished_leaves : (job : Option Job) (before answered : Status) (line : List ℕ) (a b : World) → IsFinished answered → IsBefore before answered → JobLeaves job before line a b → Leaves job answered a b
+finished_leaves job before answered line a b finished same left =
+    over a.held a.left (λ held input. leaves_by (class_of before) job held input before line a b) (λ held input. DidOutcome job held input answered a b)
+    (λ held input one. did_outcome job held input before answered line a b same (settled_ends (class_of before) job held input before line a b (finished_settled before answered finished same) one))
+    left
+
+-- ---- the console
+
+some_begun : (work : Work) (input : List ℕ) (begun : Result Begun Status) → (outcome : Outcome) × IsBegunOutcome work input begun outcome
+some_begun work input (Err status) = (ended status 0 0 [], refl)
+some_begun (Turns turns logs) input (Ok b) = (_, refl)
+
+-- a job may come to some outcome
+some_outcome : (job : Option Job) (held : Held) (input : List ℕ) → (outcome : Outcome) × IsOutcome job held input outcome
+some_outcome None held input = (ended Usage 0 0 [], refl)
+some_outcome (Some job) held input = some_begun job.work input (begun held job.begin)
+
+whole_front : (job : Option Job) (held : Held) (input : List ℕ) (status : Status) (line : List ℕ) (a b : World) → JobEnds job held input status line a b → SentFront job held input a b
+whole_front job held input status line a b ends =
+    let all : take (length (sent ends.outcome.acts)) (sent ends.outcome.acts) ≡ sent ends.outcome.acts = take_all (length (sent ends.outcome.acts)) (sent ends.outcome.acts) (omega arith) in
+    record {
+      outcome = ends.outcome;
+      is = ends.is;
+      count = length (sent ends.outcome.acts);
+      console = subst (λ (zs : List ℕ). Appends a.written b.written zs) (sym all) ends.did.console;
+    }
+
+cut_front : (why : Stop) (job : Option Job) (held : Held) (input : List ℕ) (a b : World) → JobStops why job held input a b → SentFront job held input a b
+cut_front why job held input a b stops =
+    let front = front_written stops.cut in
+    record { outcome = stops.outcome; is = stops.is; count = front.0; console = front.1 }
+
+no_front : (job : Option Job) (held : Held) (input : List ℕ) (a b : World) → Did input 0 [] a b → SentFront job held input a b
+no_front job held input a b did =
+    let some = some_outcome job held input in
+    record { outcome = some.0; is = some.1; count = 0; console = subst (λ (zs : List ℕ). Appends a.written b.written zs) sent_none did.console }
+
+front_by : (class : Class) (job : Option Job) (held : Held) (input : List ℕ) (status : Status) (line : List ℕ) (a b : World) → leaves_by class job held input status line a b → SentFront job held input a b
+front_by Refused job held input status line a b left = whole_front job held input status line a b left
+front_by Ended job held input status line a b left = whole_front job held input status line a b left
+front_by (Failed Reading) job held input status line a b left = no_front job held input a b left
+front_by (Failed Writing) job held input status line a b left = cut_front _ job held input a b left
+front_by (Failed TheInput) job held input status line a b left = cut_front _ job held input a b left
+front_by (Failed Console) job held input status line a b left = cut_front _ job held input a b left
+front_by Starved job held input status line a b (inl left) = no_front job held input a b left
+front_by Starved job held input status line a b (inr left) = cut_front _ job held input a b left
+front_by Unreported job held input status line a b left = absurd left
+front_by Never job held input status line a b left = absurd left
+
+pub leaves_front : (job : Option Job) (status : Status) (line : List ℕ) (a b : World) → JobLeaves job status line a b → SendsFront job a b
+leaves_front job status line a b left =
+    over a.held a.left (λ held input. leaves_by (class_of status) job held input status line a b) (λ held input. SentFront job held input a b)
+    (λ held input one. front_by (class_of status) job held input status line a b one)
+    left
+
+-- ---- refusals
+
+refused_same : (class : Class) (before answered : Status) → class ≡ class_of answered → finishes class → before_by class before answered → IsRefusal before → before ≡ answered
+refused_same Refused before answered is finished same refused = same
+refused_same Ended before answered is finished same refused = same
+refused_same (Failed counted) before answered is finished same refused = absurd finished
+refused_same Unreported before answered is finished same refused = let done : class_of before ≡ Ended = ap class_of same in cc
+refused_same Starved before answered is finished same refused = absurd finished
+refused_same Never before answered is finished same refused = absurd finished
+
+same_refused : (class : Class) (before answered : Status) → class ≡ class_of answered → before_by class before answered → IsRefusal answered → IsRefusal before
+same_refused Refused before answered is same refused = ap class_of same ∙ refused
+same_refused Ended before answered is same refused = cc
+same_refused (Failed counted) before answered is same refused = cc
+same_refused Unreported before answered is same refused = cc
+same_refused Starved before answered is same refused = cc
+same_refused Never before answered is same refused = cc
+
+pub refusal_answered : (refusal : Option Status) (before answered : Status) → IsFinished answered → IsBefore before answered → AnswersRefusal refusal before → AnswersRefusal refusal answered
+refusal_answered None before answered finished same none = λ refused. none (same_refused (class_of answered) before answered refl same refused)
+refusal_answered (Some refusal) before answered finished same some =
+    let as_before = refused_same (class_of answered) before answered refl finished same some.1 in
+    (sym as_before ∙ some.0, subst IsRefusal as_before some.1)
+
+-- ---- causes
+
+pub settled_none : (class : Class) (Uses : Counted → Type 0) (a b : Counts) → settles class → caused class Uses a b → NonePassedOver a b
+settled_none Refused Uses a b settled cause = cause
+settled_none Ended Uses a b settled cause = cause
+settled_none (Failed counted) Uses a b settled cause = absurd settled
+settled_none Unreported Uses a b settled cause = absurd settled
+settled_none Starved Uses a b settled cause = absurd settled
+settled_none Never Uses a b settled cause = absurd settled
+
+pub unfailed_none : (class : Class) (Uses : Counted → Type 0) (a b : Counts) → (fails class → ⊥) → caused class Uses a b → NonePassedOver a b
+unfailed_none Refused Uses a b unfailed cause = cause
+unfailed_none Ended Uses a b unfailed cause = cause
+unfailed_none (Failed counted) Uses a b unfailed cause = absurd (unfailed tt)
+unfailed_none Unreported Uses a b unfailed cause = absurd cause
+unfailed_none Starved Uses a b unfailed cause = cause
+unfailed_none Never Uses a b unfailed cause = absurd cause
+
+cause_by_class : (class : Class) (before answered : Status) (job : Option Job) (a b : Counts) (report report' : ℕ) → class ≡ class_of answered → before_by class before answered → HasJobCause before job a b → (answered ≡ WriteFault Report → Rose report report') → cause_by class answered job a b report report'
+cause_by_class Refused before answered job a b report report' is same cause rose = subst (λ (s : Status). HasJobCause s job a b) same cause
+cause_by_class Ended before answered job a b report report' is same cause rose = subst (λ (s : Status). HasJobCause s job a b) same cause
+cause_by_class (Failed counted) before answered job a b report report' is same cause rose = subst (λ (s : Status). HasJobCause s job a b) same cause
+cause_by_class Unreported before answered job a b report report' is same cause rose = rose (is_unreported answered (sym is))
+cause_by_class Starved before answered job a b report report' is same cause rose = tt
+cause_by_class Never before answered job a b report report' is same cause rose = subst (λ (s : Status). HasJobCause s job a b) same cause
+
+pub answered_cause : (before answered : Status) (job : Option Job) (a b : Counts) (report report' : ℕ) → IsBefore before answered → HasJobCause before job a b → (answered ≡ WriteFault Report → Rose report report') → HasCause answered job a b report report'
+answered_cause before answered job a b report report' same cause rose = cause_by_class (class_of answered) before answered job a b report report' refl same cause rose
+
+usage_by_class : (class : Class) (answered : Status) → class ≡ class_of answered → before_by class Usage answered → IsUsage answered
+usage_by_class Refused answered is same = inl (sym same)
+usage_by_class Ended answered is same = inl (sym same)
+usage_by_class (Failed counted) answered is same = inl (sym same)
+usage_by_class Unreported answered is same = cc
+usage_by_class Starved answered is same = inr (is_starved answered (sym is))
+usage_by_class Never answered is same = inl (sym same)
+
+-- Usage is answered, unless memory lacked
+pub usage_answered : (before answered : Status) → before ≡ Usage → IsBefore before answered → IsUsage answered
+usage_answered before answered is same = usage_by_class (class_of answered) answered refl (subst (λ (s : Status). IsBefore s answered) is same)

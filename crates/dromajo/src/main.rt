@@ -2,19 +2,16 @@
 //! one line. [`dromajo`] is the whole of it; `main` hands it the real files and streams.
 #![tactic(auto)]
 
+mod begin;
 #[cfg(test)]
 mod example_images;
 #[cfg(test)]
 mod example_tests;
 #[cfg(test)]
 mod fault_tests;
-mod feed;
-mod program;
 #[cfg(test)]
 mod program_tests;
-mod reading;
 mod report;
-mod run;
 #[cfg(test)]
 mod run_tests;
 mod status;
@@ -23,11 +20,11 @@ mod test_support;
 mod top;
 #[cfg(test)]
 mod trace_tests;
-mod turns;
 #[cfg(test)]
 mod word_tests;
-mod words;
+mod work;
 
+pub use job_words::MOST_TURNS;
 use outside_io::{DirFiles, StdSink, StdSource};
 pub use status::{Status, Which};
 use std::alloc::AllocError;
@@ -36,7 +33,6 @@ use std::io::ErrorKind;
 use std::process::ExitCode;
 use std::{env, fs};
 pub use top::dromajo;
-pub use words::MOST_TURNS;
 
 /// The words of the command line without the program's name: none where one of them is not text.
 fn command_line(rt: &HostRuntime) -> Result<Vec<String>, AllocError> {

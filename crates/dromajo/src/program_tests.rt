@@ -1,12 +1,12 @@
 // Loading over files in memory. The configurations, programs and reports are those of the program's
 // documents; the ELF file was laid out by hand (System V ABI, 4 and 5).
 
-use crate::program::{Start, load_start};
 use crate::report::report_line;
-use crate::status::Status;
+use crate::status::{Status, start_status};
 use crate::test_support::{NONE, Put, elf, same};
-use crate::words::Source;
 use guest_ram::BASE;
+use job_words::Begin;
+use machine_start::{Start, config_start, image_start};
 use outside_io::{Files, MemFiles, OutFault};
 use sim_config::Shape;
 use std::alloc::Global;
@@ -18,6 +18,18 @@ fn files_of(alloc: Global, config: &[u8], program: &[u8]) -> Result<MemFiles, Ou
     files.put("c", config)?;
     files.put("p.elf", program)?;
     Ok(files)
+}
+
+// What a machine begins with, or the status of its refusal.
+fn start_of<F: Files>(alloc: Global, files: &mut F, begin: Begin<'_>) -> Result<Start, Status> {
+    let start = match begin {
+        Begin::Config(name) => config_start(alloc, files, name),
+        Begin::Image(name) => image_start(alloc, files, name),
+    };
+    match start {
+        Ok(start) => Ok(start),
+        Err(fault) => Err(start_status(fault)),
+    }
 }
 
 // The line that reports the refusal of a start.
@@ -121,11 +133,11 @@ fn expect_start(
     rt: &impl Abort,
     alloc: Global,
     files: &mut MemFiles,
-    source: Source<'_>,
+    begin: Begin<'_>,
     shape: Shape,
     front: &[u8],
 ) {
-    match load_start(alloc, files, source) {
+    match start_of(alloc, files, begin) {
         Ok(start) => {
             same(rt, &start.shape, &shape, "shape of", "the start");
             same(rt, &start.entry, &0x8000_0000, "entry of", "the start");
@@ -151,7 +163,7 @@ fn expect_shape(
 ) -> Result<(), OutFault> {
     let program = elf(rt, change);
     let mut files = files_of(alloc, config.as_bytes(), &program)?;
-    expect_start(rt, alloc, &mut files, Source::Config("c"), shape, &FRONT);
+    expect_start(rt, alloc, &mut files, Begin::Config("c"), shape, &FRONT);
     Ok(())
 }
 
@@ -168,10 +180,10 @@ fn expect_refusal(
     rt: &impl Abort,
     alloc: Global,
     files: &mut MemFiles,
-    source: Source<'_>,
+    begin: Begin<'_>,
     want: &str,
 ) -> Result<(), OutFault> {
-    let start = load_start(alloc, files, source);
+    let start = start_of(alloc, files, begin);
     let line = refusal(alloc, start)?;
     same(rt, &line.as_str(), &want, "refusal for", want);
     Ok(())
@@ -227,7 +239,7 @@ static CONFIGS: [(&str, &str); 12] = [
 fn expect_config(rt: &impl Abort, alloc: Global, config: &str, want: &str) -> Result<(), OutFault> {
     let mut files = MemFiles::new(alloc);
     files.put("c", config.as_bytes())?;
-    expect_refusal(rt, alloc, &mut files, Source::Config("c"), want)
+    expect_refusal(rt, alloc, &mut files, Begin::Config("c"), want)
 }
 
 #[test]
@@ -266,7 +278,7 @@ static PROGRAMS: [(Put, &str); 21] = [
 fn expect_program(rt: &impl Abort, alloc: Global, change: Put, want: &str) -> Result<(), OutFault> {
     let program = elf(rt, change);
     let mut files = files_of(alloc, SMALL.as_bytes(), &program)?;
-    expect_refusal(rt, alloc, &mut files, Source::Config("c"), want)
+    expect_refusal(rt, alloc, &mut files, Begin::Config("c"), want)
 }
 
 #[test]
@@ -303,26 +315,26 @@ fn a_flat_image_stands_at_the_front_of_memory(rt: HostRuntime) -> Result<(), Out
         slice: 16,
         tohost: 0,
     };
-    let source = Source::Image("a.bin");
-    expect_start(&rt, rt.alloc(), &mut files, source, shape, &IMAGE_FRONT);
+    let begin = Begin::Image("a.bin");
+    expect_start(&rt, rt.alloc(), &mut files, begin, shape, &IMAGE_FRONT);
     Ok(())
 }
 
-// The source, the name and length of a file of zeros, the call that fails, and the report.
-type TooLong = (Source<'static>, &'static str, usize, u64, &'static str);
+// The beginning, the name and length of a file of zeros, the call that fails, and the report.
+type TooLong = (Begin<'static>, &'static str, usize, u64, &'static str);
 
 // The name and length of a file of zeros, and the refusal although its reading would fail.
 static TOO_LONG: [TooLong; 3] = [
-    (Source::Image("a"), "a", 65_537, 2, "elf outside-ram 0\n"),
+    (Begin::Image("a"), "a", 65_537, 2, "elf outside-ram 0\n"),
     (
-        Source::Config("c"),
+        Begin::Config("c"),
         "c",
         65_537,
         2,
         "config too-long 65537\n",
     ),
     (
-        Source::Config("d"),
+        Begin::Config("d"),
         "p.elf",
         67_108_865,
         4,
@@ -331,13 +343,13 @@ static TOO_LONG: [TooLong; 3] = [
 ];
 
 fn expect_too_long(rt: &impl Abort, alloc: Global, row: TooLong) -> Result<(), OutFault> {
-    let (source, name, len, call, want) = row;
+    let (begin, name, len, call, want) = row;
     let mut files = MemFiles::new(alloc);
     files.put("d", SMALL.as_bytes())?;
     let bytes = zeros(alloc, len)?;
     files.put(name, &bytes)?;
     files.fail_at(call)?;
-    expect_refusal(rt, alloc, &mut files, source, want)
+    expect_refusal(rt, alloc, &mut files, begin, want)
 }
 
 #[test]
@@ -349,26 +361,26 @@ fn nothing_is_read_of_a_file_that_is_too_long(rt: HostRuntime) -> Result<(), Out
 }
 
 // The source, the call of the files that fails, and the report.
-static FAILURES: [(Source<'static>, u64, &str); 12] = [
-    (Source::Config("c"), 1, "read fault files\n"),
-    (Source::Config("c"), 2, "read fault files\n"),
-    (Source::Config("c"), 3, "read fault files\n"),
-    (Source::Config("c"), 4, "read fault files\n"),
-    (Source::Config("c"), 5, "done turns=0 taken=0\n"),
-    (Source::Image("p.elf"), 1, "read fault files\n"),
-    (Source::Image("p.elf"), 2, "read fault files\n"),
-    (Source::Image("p.elf"), 3, "done turns=0 taken=0\n"),
+static FAILURES: [(Begin<'static>, u64, &str); 12] = [
+    (Begin::Config("c"), 1, "read fault files\n"),
+    (Begin::Config("c"), 2, "read fault files\n"),
+    (Begin::Config("c"), 3, "read fault files\n"),
+    (Begin::Config("c"), 4, "read fault files\n"),
+    (Begin::Config("c"), 5, "done turns=0 taken=0\n"),
+    (Begin::Image("p.elf"), 1, "read fault files\n"),
+    (Begin::Image("p.elf"), 2, "read fault files\n"),
+    (Begin::Image("p.elf"), 3, "done turns=0 taken=0\n"),
     // no byte is missing of an empty file
-    (Source::Image("empty"), 2, "done turns=0 taken=0\n"),
-    (Source::Config("empty"), 2, "config not-json\n"),
-    (Source::Image("none"), 9, "read fault files\n"),
-    (Source::Config("none"), 9, "read fault files\n"),
+    (Begin::Image("empty"), 2, "done turns=0 taken=0\n"),
+    (Begin::Config("empty"), 2, "config not-json\n"),
+    (Begin::Image("none"), 9, "read fault files\n"),
+    (Begin::Config("none"), 9, "read fault files\n"),
 ];
 
 fn expect_failure(
     rt: &impl Abort,
     alloc: Global,
-    source: Source<'_>,
+    begin: Begin<'_>,
     call: u64,
     want: &str,
 ) -> Result<(), OutFault> {
@@ -376,13 +388,13 @@ fn expect_failure(
     let mut files = files_of(alloc, SMALL.as_bytes(), &program)?;
     files.put("empty", &[])?;
     files.fail_at(call)?;
-    expect_refusal(rt, alloc, &mut files, source, want)
+    expect_refusal(rt, alloc, &mut files, begin, want)
 }
 
 #[test]
 fn a_failed_read_is_answered(rt: HostRuntime) -> Result<(), OutFault> {
-    for &(source, call, want) in &FAILURES {
-        expect_failure(&rt, rt.alloc(), source, call, want)?;
+    for &(begin, call, want) in &FAILURES {
+        expect_failure(&rt, rt.alloc(), begin, call, want)?;
     }
     Ok(())
 }
@@ -428,7 +440,7 @@ impl Files for Ending {
 #[test]
 fn a_file_that_ends_early_counts_as_what_was_read(rt: HostRuntime) -> Result<(), OutFault> {
     let mut files = Ending;
-    let start = load_start(rt.alloc(), &mut files, Source::Config("c"));
+    let start = start_of(rt.alloc(), &mut files, Begin::Config("c"));
     let line = refusal(rt.alloc(), start)?;
     same(
         &rt,

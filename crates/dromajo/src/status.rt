@@ -2,9 +2,12 @@
 
 ghost use Rattle.std.specs.Prelude.{◌≡◌};
 ghost use Rattle.std.specs.Process.{exit_status};
+ghost use Rattle.dromajo.specs.Classes.{start_status, stop_status};
 ghost use Rattle.dromajo.specs.Codes.{code_of};
 
 use elf_load::ElfFault;
+use machine_start::StartFault;
+use outside_acts::Stop;
 use sim_config::ConfigFault;
 use std::process::ExitCode;
 
@@ -68,5 +71,29 @@ impl Status {
         ensures { exit_status result ≡ code_of self.now }
     {
         ExitCode::from(self.code())
+    }
+}
+
+/// The status of a machine that could not be made of its files.
+pub(crate) fn start_status(fault: StartFault) -> Status
+    ensures { result ≡ start_status fault }
+{
+    match fault {
+        StartFault::Config(fault) => Status::BadConfig(fault),
+        StartFault::Elf(fault) => Status::BadElf(fault),
+        StartFault::Unread => Status::ReadFault(Which::Files),
+        StartFault::NoMemory => Status::NoMemory,
+    }
+}
+
+/// The status of a stop.
+pub(crate) fn stop_status(stop: Stop) -> Status
+    ensures { result ≡ stop_status stop }
+{
+    match stop {
+        Stop::Input => Status::ReadFault(Which::Input),
+        Stop::Out => Status::WriteFault(Which::Out),
+        Stop::Files => Status::WriteFault(Which::Files),
+        Stop::NoMemory => Status::NoMemory,
     }
 }

@@ -1,175 +1,119 @@
 // The top call: the words, the job, the report.
 
-ghost use Rattle.std.specs.Prelude.{◌≡◌, ◌≤◌, IfSome, IsErr, IsSome, List, None, OnErr, OnOk, ℕ, Some, option_map, []};
-ghost use Rattle.outside_io.specs.Causes.{Rose, StaysQuiet};
-ghost use Rattle.outside_io.specs.Causes.{HasCause as HasCallCause};
-ghost use Rattle.outside_io.specs.Content.{Told};
-ghost use Rattle.dromajo.specs.CommandLine.{job_of, texts};
-ghost use Rattle.dromajo.specs.CommandLine.{Run as RunJob};
-ghost use Rattle.dromajo.specs.Cut.{MayBeStarted};
-ghost use Rattle.dromajo.specs.Feeding.{AppendsFront, HoldsTrace};
-ghost use Rattle.dromajo.specs.Quiet.{HoldsFiles, HoldsJob, IsFault, NoneRose};
-ghost use Rattle.dromajo.specs.Refusal.{AnswersRefusal, refusal_of};
-ghost use Rattle.dromajo.specs.TopCall.{HasCause, HasJobCause, IsBefore, IsFinished, IsJobResult, IsSettled, IsUsage, JobLeaves, Leaves, NonePassedOver, Reported, Reports, counts, failed_report, job_result, result_of};
-ghost use Rattle.dromajo.specs.Walk.{source_seen, text_seen};
+ghost use Rattle.std.specs.Prelude.{◌≡◌, IfErr, IfSome, None, OnErr, Some};
+ghost use Rattle.outside_io.specs.Causes.{Rose};
+ghost use Rattle.outside_acts.specs.World.{NonePassedOver};
+ghost use Rattle.job_words.specs.CommandLine.{job_of, texts};
+ghost use Rattle.job_words.specs.Seen.{HasFewTurns, job_seen};
+ghost use Rattle.dromajo.specs.Classes.{IsBefore, IsFault, IsFinished, IsSettled, IsUsage, failed_report};
+ghost use Rattle.dromajo.specs.Jobs.{HoldsJob, refusal_of};
+ghost use Rattle.dromajo.specs.Report.{report_line};
+ghost use Rattle.dromajo.specs.TopCall.{AnswersRefusal, HasCause, HasJobCause, JobLeaves, Leaves, NoneRose, Reported, Reports, SendsFront, told_of};
 
-use crate::program::load_start;
+use crate::begin::begin;
 use crate::report::report_line;
-use crate::run::{Ended, run};
-use crate::status::{Status, Which};
-use crate::words::{Job, Source as Origin, named_job};
-use hart_turns::Machine;
+use crate::status::{Status, Which, stop_status};
+use crate::work::{Finished, do_work};
+use job_words::{Job, named_job};
+use outside_acts::Objects;
 use outside_io::{Files, OutFault, Sink, Source};
 use std::alloc::Global;
+use turn_runs::Feed;
 
-/// A job that ended before its first turn.
-fn ended_early(status: Status) -> Ended
+/// A job that ended with no turn to report.
+fn ended_early(status: Status) -> Finished
     ensures status { result.status ≡ status }
     ensures turns { result.turns ≡ 0 }
     ensures taken { result.taken ≡ 0 }
 {
-    Ended {
+    Finished {
         status,
         turns: 0,
         taken: 0,
     }
 }
 
-/// Starts the file of a trace, where there is one.
-fn start_trace<F: Files>(files: &mut F, trace: Option<&str>) -> Result<(), OutFault>
-    ensures started { OnOk result (Told (F.held files.old) (F.held files.new)
-        (λ before now. HoldsTrace (option_map text_seen trace.entry) [] before now)) }
-    ensures cut { OnErr result (Told (F.held files.old) (F.held files.new) (MayBeStarted (option_map text_seen trace.entry))) }
-    ensures cause { HasCallCause (F.write_faults files.old) (F.write_faults files.new) result }
-    ensures other_count { F.read_faults files.new ≡ F.read_faults files.old }
-    ensures named { IsErr result → IsSome (option_map text_seen trace.entry) }
-    ensures calm { F.quiet files.old → StaysQuiet (F.quiet files.new) result }
-{
-    match trace {
-        Some(name) => files.start(name),
-        None => Ok(()),
-    }
-}
-
-/// Runs the machine of a source for so many turns.
-fn run_source<F: Files, I: Source, O: Sink>(
+/// Does a job.
+fn do_job<F: Files, I: Source, O: Sink>(
     alloc: Global,
-    source: Origin<'_>,
-    turns: u64,
-    trace: Option<&str>,
+    job: &Job<'_>,
     files: &mut F,
     input: &mut I,
     out: &mut O,
-) -> Ended
-    requires most { turns ≤ 1_000_000_000 }
-    ensures settled { IsSettled result.status → IfSome (F.held files.old) (λ held.
-        (bytes : List ℕ) → I.left input.old ≡ Some bytes →
-        IsJobResult (job_result (RunJob (source_seen source.entry) turns (option_map text_seen trace.entry)) held bytes)
-        result.status result.turns result.taken (O.written out.old) (O.written out.new)
-        held (F.held files.new) bytes (I.left input.new)) }
+) -> Finished
+    requires { HasFewTurns job.now }
+    ensures leaves { JobLeaves (Some (job_seen job.now)) result.status (report_line result.status result.turns result.taken)
+        (told_of F.held F.read_faults F.write_faults I.left I.faults O.written O.faults files.old input.old out.old)
+        (told_of F.held F.read_faults F.write_faults I.left I.faults O.written O.faults files.new input.new out.new) }
     ensures refusal { IsSettled result.status → IfSome (F.held files.old) (λ held.
-        AnswersRefusal (refusal_of (Some (RunJob (source_seen source.entry) turns (option_map text_seen trace.entry))) held)
-        result.status) }
-    ensures front { IfSome (F.held files.old) (λ held.
-        (bytes : List ℕ) → I.left input.old ≡ Some bytes →
-        AppendsFront (O.written out.old) (O.written out.new)
-        (job_result (RunJob (source_seen source.entry) turns (option_map text_seen trace.entry)) held bytes).console) }
-    ensures cut { (IsSettled result.status → ⊥) → IfSome (F.held files.old) (λ held.
-        (bytes : List ℕ) → I.left input.old ≡ Some bytes →
-        JobLeaves (Some (RunJob (source_seen source.entry) turns (option_map text_seen trace.entry)))
-        result.turns result.status (O.written out.old) (O.written out.new)
-        held (F.held files.new) bytes (I.left input.new)) }
-    ensures cause { HasJobCause result.status (Some (RunJob (source_seen source.entry) turns (option_map text_seen trace.entry)))
-        (counts (F.read_faults files.old) (F.write_faults files.old) (I.faults input.old) (O.faults out.old))
-        (counts (F.read_faults files.new) (F.write_faults files.new) (I.faults input.new) (O.faults out.new)) }
+        AnswersRefusal (refusal_of (Some (job_seen job.now)) held) result.status) }
+    ensures cause { HasJobCause result.status (Some (job_seen job.now))
+        (told_of F.held F.read_faults F.write_faults I.left I.faults O.written O.faults files.old input.old out.old).counts
+        (told_of F.held F.read_faults F.write_faults I.left I.faults O.written O.faults files.new input.new out.new).counts }
+    ensures before { IsBefore result.status result.status }
     ensures calm { F.quiet files.old → I.quiet input.old → O.quiet out.old →
-        HoldsFiles (F.held files.old) (source_seen source.entry) → IsFault result.status → ⊥ }
+        HoldsJob (F.held files.old) (Some (job_seen job.now)) → IsFault result.status → ⊥ }
 {
-    let start = match load_start(alloc, files, source) {
-        Ok(start) => start,
+    let mut machine = match begin(alloc, job.begin, files) {
+        Ok(machine) => machine,
         Err(status) => return ended_early(status),
     };
-    let mut machine = match Machine::reset(alloc, start.shape, start.ram, start.entry) {
-        Ok(machine) => machine,
-        Err(_) => return ended_early(Status::NoMemory),
-    };
-    match start_trace(files, trace) {
-        Ok(()) => run(alloc, &mut machine, turns, trace, files, input, out),
-        Err(OutFault::Failed) => ended_early(Status::WriteFault(Which::Files)),
-        Err(OutFault::NoMemory) => ended_early(Status::NoMemory),
+    let mut feed = Feed::new();
+    let mut outside = Objects { files, input, out };
+    match do_work(alloc, &job.work, &mut machine, &mut feed, &mut outside) {
+        Ok(finished) => finished,
+        Err(stop) => ended_early(stop_status(stop)),
     }
 }
 
 /// Does the job that the words name.
-#[tactic(auto, using(crate::proofs::Quiets::none_passed))]
 fn perform<F: Files, I: Source, O: Sink>(
     alloc: Global,
     words: &[String],
     files: &mut F,
     input: &mut I,
     out: &mut O,
-) -> Ended
-    ensures settled { IsSettled result.status → IfSome (F.held files.old) (λ held.
-        (bytes : List ℕ) → I.left input.old ≡ Some bytes →
-        IsJobResult (result_of (job_of (texts words.now)) held bytes)
-        result.status result.turns result.taken (O.written out.old) (O.written out.new)
-        held (F.held files.new) bytes (I.left input.new)) }
+) -> Finished
+    ensures leaves { JobLeaves (job_of (texts words.now)) result.status (report_line result.status result.turns result.taken)
+        (told_of F.held F.read_faults F.write_faults I.left I.faults O.written O.faults files.old input.old out.old)
+        (told_of F.held F.read_faults F.write_faults I.left I.faults O.written O.faults files.new input.new out.new) }
     ensures refusal { IsSettled result.status → IfSome (F.held files.old) (λ held.
         AnswersRefusal (refusal_of (job_of (texts words.now)) held) result.status) }
-    ensures front { IfSome (F.held files.old) (λ held.
-        (bytes : List ℕ) → I.left input.old ≡ Some bytes →
-        AppendsFront (O.written out.old) (O.written out.new)
-        (result_of (job_of (texts words.now)) held bytes).console) }
-    ensures cut { (IsSettled result.status → ⊥) → IfSome (F.held files.old) (λ held.
-        (bytes : List ℕ) → I.left input.old ≡ Some bytes →
-        JobLeaves (job_of (texts words.now)) result.turns result.status (O.written out.old) (O.written out.new)
-        held (F.held files.new) bytes (I.left input.new)) }
     ensures cause { HasJobCause result.status (job_of (texts words.now))
-        (counts (F.read_faults files.old) (F.write_faults files.old) (I.faults input.old) (O.faults out.old))
-        (counts (F.read_faults files.new) (F.write_faults files.new) (I.faults input.new) (O.faults out.new)) }
+        (told_of F.held F.read_faults F.write_faults I.left I.faults O.written O.faults files.old input.old out.old).counts
+        (told_of F.held F.read_faults F.write_faults I.left I.faults O.written O.faults files.new input.new out.new).counts }
     ensures before { IsBefore result.status result.status }
     ensures nothing { job_of (texts words.now) ≡ None →
         (result.status ≡ Status.Usage) × (files.new ≡ files.old) × (input.new ≡ input.old) × (out.new ≡ out.old) }
     ensures calm { F.quiet files.old → I.quiet input.old → O.quiet out.old →
         HoldsJob (F.held files.old) (job_of (texts words.now)) → IsFault result.status → ⊥ }
-    ensures kept { F.quiet files.old → I.quiet input.old → O.quiet out.old →
-        HoldsJob (F.held files.old) (job_of (texts words.now)) → NonePassedOver
-        (counts (F.read_faults files.old) (F.write_faults files.old) (I.faults input.old) (O.faults out.old))
-        (counts (F.read_faults files.new) (F.write_faults files.new) (I.faults input.new) (O.faults out.new)) }
 {
-    let Some(
-        Job::Run {
-            source,
-            turns,
-            trace,
-        },
-    ) = named_job(words)
-    else {
-        return ended_early(Status::Usage);
-    };
-    run_source(alloc, source, turns, trace, files, input, out)
+    match named_job(words) {
+        Some(job) => do_job(alloc, &job, files, input, out),
+        None => ended_early(Status::Usage),
+    }
 }
 
 /// Writes the report line, and answers the status after it.
-fn finish<E: Sink>(alloc: Global, ended: Ended, report: &mut E) -> Status
-    requires { IsBefore ended.status ended.status }
-    ensures reports { Reports result ended.turns ended.taken ended.status
+fn finish<E: Sink>(alloc: Global, finished: Finished, report: &mut E) -> Status
+    requires { IsBefore finished.status finished.status }
+    ensures reports { Reports result finished.status (report_line finished.status finished.turns finished.taken)
         (E.written report.old) (E.written report.new)
         (E.faults report.old) (E.faults report.new) }
     ensures cause { result ≡ Status.WriteFault Which.Report →
         Rose (E.faults report.old) (E.faults report.new) }
     ensures done { result ≡ Status.Done → E.faults report.new ≡ E.faults report.old }
-    ensures calm { E.quiet report.old → (IsFault ended.status → ⊥) → IsFault result → ⊥ }
+    ensures calm { E.quiet report.old → (IsFault finished.status → ⊥) → IsFault result → ⊥ }
     ensures kept { E.quiet report.old → E.faults report.new ≡ E.faults report.old }
 {
-    let line = match report_line(alloc, &ended.status, ended.turns, ended.taken) {
+    let line = match report_line(alloc, &finished.status, finished.turns, finished.taken) {
         Ok(line) => line,
         Err(_) => return Status::NoMemory,
     };
     match report.write(line.as_bytes()) {
-        Ok(()) => ended.status,
+        Ok(()) => finished.status,
         Err(OutFault::NoMemory) => Status::NoMemory,
-        Err(OutFault::Failed) => after_failed_report(ended.status),
+        Err(OutFault::Failed) => after_failed_report(finished.status),
     }
 }
 
@@ -196,67 +140,57 @@ pub fn dromajo<F: Files, I: Source, O: Sink, E: Sink>(
     out: &mut O,
     report: &mut E,
 ) -> Status
-    // Where the outside did not fail, and what it holds is told, the call leaves the result of the
-    // job that the words name: its status, the console's bytes, the files, and the bytes read.
-    ensures result { IsFinished result → IfSome (F.held files.old) (λ held.
-        IfSome (I.left input.old) (λ bytes.
-        Leaves (result_of (job_of (texts words.now.items)) held bytes) result
-        (O.written out.old) (O.written out.new) held (F.held files.new) bytes (I.left input.new))) }
+    // Where the outside did not fail, and what it holds is told, the call leaves what an outcome of the job that
+    // the words name says: its status, the console's bytes, the files, and the bytes read.
+    ensures result { IsFinished result → Leaves (job_of (texts words.now.items)) result
+        (told_of F.held F.read_faults F.write_faults I.left I.faults O.written O.faults files.old input.old out.old)
+        (told_of F.held F.read_faults F.write_faults I.left I.faults O.written O.faults files.new input.new out.new) }
 
-    // A refusal is answered exactly where the words, or what the files hold, give it, whatever the
-    // input has left.
+    // A refusal is answered exactly where the words, or what the files hold, give it, whatever the input has left.
     ensures refusal { IsFinished result → IfSome (F.held files.old) (λ held.
         AnswersRefusal (refusal_of (job_of (texts words.now.items)) held) result) }
 
     // Whatever the status, the console got a front of the bytes that the job sends.
-    ensures front { IfSome (F.held files.old) (λ held. IfSome (I.left input.old) (λ bytes.
-        AppendsFront (O.written out.old) (O.written out.new)
-        (result_of (job_of (texts words.now.items)) held bytes).console)) }
+    ensures front { SendsFront (job_of (texts words.now.items))
+        (told_of F.held F.read_faults F.write_faults I.left I.faults O.written O.faults files.old input.old out.old)
+        (told_of F.held F.read_faults F.write_faults I.left I.faults O.written O.faults files.new input.new out.new) }
 
     // No fault is passed over.
     ensures none_passed_over { IsFinished result → NonePassedOver
-        (counts (F.read_faults files.old) (F.write_faults files.old) (I.faults input.old) (O.faults out.old))
-        (counts (F.read_faults files.new) (F.write_faults files.new) (I.faults input.new) (O.faults out.new)) }
+        (told_of F.held F.read_faults F.write_faults I.left I.faults O.written O.faults files.old input.old out.old).counts
+        (told_of F.held F.read_faults F.write_faults I.left I.faults O.written O.faults files.new input.new out.new).counts }
     ensures done { result ≡ Status.Done → E.faults report.new ≡ E.faults report.old }
 
-    // Each status has its cause, and beside it no fault is passed over; of the report's failure and of
-    // want of memory `reported` says it, by the status before the report.
+    // Each status has its cause, and beside it no fault is passed over; of the report's failure and of want of memory
+    // `reported` says it, by the status before the report.
     ensures causes { HasCause result (job_of (texts words.now.items))
-        (counts (F.read_faults files.old) (F.write_faults files.old) (I.faults input.old) (O.faults out.old))
-        (counts (F.read_faults files.new) (F.write_faults files.new) (I.faults input.new) (O.faults out.new))
+        (told_of F.held F.read_faults F.write_faults I.left I.faults O.written O.faults files.old input.old out.old).counts
+        (told_of F.held F.read_faults F.write_faults I.left I.faults O.written O.faults files.new input.new out.new).counts
         (E.faults report.old) (E.faults report.new) }
 
     // Words that name no job are said to be none, and then no object was touched but the report.
     ensures usage { job_of (texts words.now.items) ≡ None → IsUsage result
         × (files.new ≡ files.old) × (input.new ≡ input.old) × (out.new ≡ out.old) }
 
-    // Over objects that fail at no call, where every file that the job reads is held, no fault of reading or
-    // writing is answered, and whatever the status no count rose: nothing fails that the job does not ask for.
+    // Over objects that fail at no call, where every file that the job reads is held, no fault of reading or writing
+    // is answered, and whatever the status no count rose: nothing fails that the job does not ask for.
     ensures complete { F.quiet files.old → I.quiet input.old → O.quiet out.old → E.quiet report.old →
         HoldsJob (F.held files.old) (job_of (texts words.now.items)) → IsFault result → ⊥ }
     ensures no_count_rises { F.quiet files.old → I.quiet input.old → O.quiet out.old → E.quiet report.old →
         HoldsJob (F.held files.old) (job_of (texts words.now.items)) → NoneRose
-        (counts (F.read_faults files.old) (F.write_faults files.old) (I.faults input.old) (O.faults out.old))
-        (counts (F.read_faults files.new) (F.write_faults files.new) (I.faults input.new) (O.faults out.new))
+        (told_of F.held F.read_faults F.write_faults I.left I.faults O.written O.faults files.old input.old out.old).counts
+        (told_of F.held F.read_faults F.write_faults I.left I.faults O.written O.faults files.new input.new out.new).counts
         (E.faults report.old) (E.faults report.new) }
 
-    // The report has the line of the status before it, which has its causes; and where that status
-    // is a fault or want of memory, what the job leaves is that of so many whole turns, and a part of
-    // the next one at the most.
+    // The report has the line of the status before it, which has its causes; and the call leaves what the job leaves
+    // that ended with that status: all its acts, or, after a fault or for want of memory, those before the act that
+    // failed, and a part of that one.
     ensures reported { Reported result (job_of (texts words.now.items))
-        (record {
-          out = O.written out.old;
-          out_now = O.written out.new;
-          held = F.held files.old;
-          held_now = F.held files.new;
-          input = I.left input.old;
-          input_now = I.left input.new;
-        })
-        (counts (F.read_faults files.old) (F.write_faults files.old) (I.faults input.old) (O.faults out.old))
-        (counts (F.read_faults files.new) (F.write_faults files.new) (I.faults input.new) (O.faults out.new))
+        (told_of F.held F.read_faults F.write_faults I.left I.faults O.written O.faults files.old input.old out.old)
+        (told_of F.held F.read_faults F.write_faults I.left I.faults O.written O.faults files.new input.new out.new)
         (E.written report.old) (E.written report.new)
         (E.faults report.old) (E.faults report.new) }
 {
-    let ended = perform(alloc, words.as_slice(), files, input, out);
-    finish(alloc, ended, report)
+    let finished = perform(alloc, words.as_slice(), files, input, out);
+    finish(alloc, finished, report)
 }

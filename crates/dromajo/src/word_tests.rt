@@ -4,48 +4,48 @@
 use crate::report::report_line;
 use crate::status::{Status, Which};
 use crate::test_support::{same, words_of};
-use crate::words::{Job, Source, named_job};
 use elf_load::{ElfFault, ElfField};
+use job_words::{Begin, Job, Work, named_job};
 use sim_config::{ConfigFault, Key};
 use std::alloc::{AllocError, Global};
 use std::process::Abort;
 
-// Words, and the source, the turns and the trace of the job that they name.
-static JOBS: [(&str, Source<'static>, u64, Option<&str>); 7] = [
+// Words, and the beginning, the turns and the trace of the job that they name.
+static JOBS: [(&str, Begin<'static>, u64, Option<&str>); 7] = [
     (
         "run --image a.bin --turns 1",
-        Source::Image("a.bin"),
+        Begin::Image("a.bin"),
         1,
         None,
     ),
     (
         "run --turns 1 --image a.bin",
-        Source::Image("a.bin"),
+        Begin::Image("a.bin"),
         1,
         None,
     ),
-    ("run --config c --turns 0", Source::Config("c"), 0, None),
+    ("run --config c --turns 0", Begin::Config("c"), 0, None),
     (
         "run --config c --turns 7 --trace t",
-        Source::Config("c"),
+        Begin::Config("c"),
         7,
         Some("t"),
     ),
     (
         "run --trace t --turns 1000000000 --config c",
-        Source::Config("c"),
+        Begin::Config("c"),
         1_000_000_000,
         Some("t"),
     ),
     (
         "run --trace e --image e --turns 12345",
-        Source::Image("e"),
+        Begin::Image("e"),
         12_345,
         Some("e"),
     ),
     (
         "run --image --image --turns 1",
-        Source::Image("--image"),
+        Begin::Image("--image"),
         1,
         None,
     ),
@@ -85,27 +85,32 @@ static NO_JOBS: [&str; 30] = [
     "run image a --turns 1",
 ];
 
-// The words of a line name this job, or none.
+// A job's beginning, its turns and its trace.
+type Parts<'a> = (Begin<'a>, u64, Option<&'a str>);
+
+fn parts<'a>(job: &Job<'a>) -> Parts<'a> {
+    match &job.work {
+        Work::Turns { turns, logs } => (job.begin, *turns, logs.trace()),
+    }
+}
+
+// The words of a line name a job of these parts, or none.
 fn expect_job(
     rt: &impl Abort,
     alloc: Global,
     line: &str,
-    want: Option<Job<'_>>,
+    want: Option<Parts<'_>>,
 ) -> Result<(), AllocError> {
     let words = words_of(alloc, line)?;
-    same(rt, &named_job(&words), &want, "the job of", line);
+    let found = named_job(&words);
+    same(rt, &found.as_ref().map(parts), &want, "the job of", line);
     Ok(())
 }
 
 #[test]
 fn words_name_their_job(rt: HostRuntime) -> Result<(), AllocError> {
-    for &(line, source, turns, trace) in &JOBS {
-        let want = Job::Run {
-            source,
-            turns,
-            trace,
-        };
-        expect_job(&rt, rt.alloc(), line, Some(want))?;
+    for &(line, begin, turns, trace) in &JOBS {
+        expect_job(&rt, rt.alloc(), line, Some((begin, turns, trace)))?;
     }
     for &line in &NO_JOBS {
         expect_job(&rt, rt.alloc(), line, None)?;

@@ -1,26 +1,13 @@
--- A refusal before the report is the one that is answered, and over quiet objects no count rose.
-use Rattle.std.proofs.Common.{Global, IfSome, List, String, subst, sym}
-use Rattle.dromajo.specs.CommandLine.{job_of, texts}
-use Rattle.dromajo.specs.Quiet.{HoldsJob}
-use Rattle.dromajo.specs.Refusal.{AnswersRefusal, refusal_of}
-use Rattle.dromajo.proofs.Quiets.{not_risen}
-use Rattle.dromajo.proofs.Refusals.{finished_answer}
+-- A front of the bytes, from what the job leaves.
+use Rattle.std.proofs.Common.{Global, List, String, subst}
+use Rattle.job_words.specs.CommandLine.{job_of, texts}
+use Rattle.outside_acts.specs.World.{World}
+use Rattle.dromajo.specs.TopCall.{SendsFront, told_of}
+use Rattle.dromajo.proofs.Answered.{leaves_front}
 use Rattle.dromajo.proofs.top.dromajo.Goals as goal
 
-pub returns-clause-refusal : goal.returns-clause-refusal
-returns-clause-refusal g c = λ finished.
-    subst (λ (words : List (String Global)). IfSome (g.F.Files.held c.args.files.now) (λ held. AnswersRefusal (refusal_of (job_of (texts words)) held) c.finish.result))
-    c.as_slice.ensures.value
-    (finished_answer (g.F.Files.held c.args.files.now) (job_of (texts c.as_slice.result.now)) c.perform-ended.result.status c.finish.result c.finish.ensures.reports.status c.perform-ended.ensures.refusal finished)
-
-pub returns-clause-no_count_rises : goal.returns-clause-no_count_rises
-returns-clause-no_count_rises g c = λ files input out report holds.
-    let held = subst (λ (words : List (String Global)). HoldsJob (g.F.Files.held c.args.files.now) (job_of (texts words))) (sym c.as_slice.ensures.value) holds in
-    let kept = c.perform-ended.ensures.kept files input out held in
-    record {
-      files = not_risen _ _ kept.files (g.met.F.Files.can_rise c.args.files.now files).0;
-      writes = not_risen _ _ kept.writes (g.met.F.Files.can_rise c.args.files.now files).1;
-      input = not_risen _ _ kept.input (g.met.I.Source.can_rise c.args.input.now input);
-      out = not_risen _ _ kept.out (g.met.O.Sink.can_rise c.args.out.now out);
-      report = not_risen _ _ (c.finish.ensures.kept report) (g.met.E.Sink.can_rise c.args.report.now report);
-    }
+pub returns-clause-front : goal.returns-clause-front
+returns-clause-front g c =
+    let before : World = told_of g.F.Files.held g.F.Files.read_faults g.F.Files.write_faults g.I.Source.left g.I.Source.faults g.O.Sink.written g.O.Sink.faults c.args.files.now c.args.input.now c.args.out.now in
+    let now : World = told_of g.F.Files.held g.F.Files.read_faults g.F.Files.write_faults g.I.Source.left g.I.Source.faults g.O.Sink.written g.O.Sink.faults c.perform-finished.new.files c.perform-finished.new.input c.perform-finished.new.out in
+    subst (λ (words : List (String Global)). SendsFront (job_of (texts words)) before now) c.as_slice.ensures.value (leaves_front (job_of (texts c.as_slice.result.now)) c.perform-finished.result.status _ before now c.perform-finished.ensures.leaves)

@@ -1,7 +1,0 @@
-use Rattle.std.proofs.Common.{◌≡◌, ◌++◌, take}
-use Rattle.dromajo.specs.Run.{trace_lines}
-use Rattle.dromajo.proofs.turns.push_lines.Given as goal
-
--- the lines of the events before this one were pushed
-abbrev pub invariant-loop-event : goal.invariant-loop-event
-invariant-loop-event l = l.text.items ≡ l.fn.text.items ++ trace_lines (take l.event-index l.events)

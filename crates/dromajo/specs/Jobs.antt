@@ -1,0 +1,124 @@
+-- What each job does: where its machine begins, and the acts of its work; its status, and its report.
+use Rattle.std.specs.Prelude.{◌≡◌, ◌≢◌, ◌⊎◌, ℕ, ◌==◌, List, [], ◌∷◌, ◌++◌, Option, Some, None, Result, Ok, Err, if◌then◌else◌, ⊤}
+use Rattle.outside_io.specs.Content.{Held, IsHeld}
+use Rattle.outside_acts.specs.Acts.{Act, Start}
+use Rattle.outside_acts.specs.World.{Counted, Reading}
+use Rattle.sim_config.specs.declared.fault.ConfigFault.{ConfigFault}
+use Rattle.sim_config.specs.declared.fault.ConfigFault.TheVariants as config_fault
+use Rattle.hart_turns.specs.declared.machine.TurnEnd.{TurnEnd}
+use Rattle.hart_turns.specs.declared.machine.TurnEnd.TheVariants as turn_end
+use Rattle.hart_turns.specs.Machine.{MachineState, reset_machine}
+use Rattle.machine_start.specs.declared.start.Start.{Start as StartValue}
+use Rattle.machine_start.specs.declared.fault.StartFault.{StartFault}
+use Rattle.machine_start.specs.Quiet.{HoldsConfig}
+use Rattle.machine_start.specs.Start.{start_of_config, start_from_image}
+use Rattle.job_words.specs.Job.{Begin, FromConfig, FromImage, Job, Logs, Turns, Work}
+use Rattle.turn_runs.specs.Reaching.{log_uses}
+use Rattle.turn_runs.specs.Run.{Ran, run}
+use Rattle.dromajo.specs.declared.status.Status.{Status}
+use Rattle.dromajo.specs.declared.status.Status.TheVariants.{Done, Usage, BadConfig, GuestEnded, BadHostWord}
+use Rattle.dromajo.specs.Classes.{start_status}
+use Rattle.dromajo.specs.Report.{report_line}
+
+-- ---- where a machine begins
+
+-- a machine, and what was done to the outside before its work
+pub record Begun : Type 0 where
+  pub machine : MachineState
+  pub acts : List Act
+
+-- the machine that a start stands for
+abbrev pub machine_of : StartValue → MachineState
+machine_of start = reset_machine start.shape start.ram start.entry
+
+abbrev pub begun_at : Result StartValue StartFault → Result Begun Status
+begun_at (Ok start) = Ok (record { machine = machine_of start; acts = [] })
+begun_at (Err fault) = Err (start_status fault)
+
+-- what a machine begins with, over what the files hold at the call: no act of a beginning writes a file
+abbrev pub start_of : Held → Begin → Result StartValue StartFault
+start_of held (FromConfig name) = start_of_config held name
+start_of held (FromImage name) = start_from_image held name
+
+abbrev pub begun : Held → Begin → Result Begun Status
+begun held begin = begun_at (start_of held begin)
+
+-- ---- the work, and how it ends
+
+-- the status, the report line, and all acts
+pub record Outcome : Type 0 where
+  pub status : Status
+  pub line : List ℕ
+  pub acts : List Act
+
+-- `turns` turns were made in the call, and `taken` bytes of the input taken
+abbrev pub ended : Status → ℕ → ℕ → List Act → Outcome
+ended status turns taken acts = record { status = status; line = report_line status turns taken; acts = acts }
+
+-- the status of a run, by how its last turn ended: a program that ends with code 0 is done
+abbrev pub end_status : TurnEnd → ℕ → Status
+end_status turn_end.Goes made = Done
+end_status (turn_end.Ended code) made = if code == 0 then Done else GuestEnded code made
+end_status (turn_end.BadHost word) made = BadHostWord word made
+
+-- a machine that has run, after these acts
+abbrev pub ran_outcome : List Act → Ran → Outcome
+ran_outcome acts ran = ended (end_status ran.last ran.made) ran.made ran.machine.taken (acts ++ ran.acts)
+
+abbrev pub start_named : Option (List ℕ) → List Act
+start_named None = []
+start_named (Some name) = Start name ∷ []
+
+-- the files of the logs are made, and emptied
+abbrev pub start_acts : Logs → List Act
+start_acts logs = start_named logs.trace
+
+-- what a work on a machine may come to, where these acts were done before
+abbrev pub IsWorkOutcome : Work → List Act → MachineState → List ℕ → Outcome → Type 0
+IsWorkOutcome (Turns turns logs) acts m input outcome = outcome ≡ ran_outcome (acts ++ start_acts logs) (run logs input m turns)
+
+-- a beginning that is refused does nothing
+abbrev pub IsBegunOutcome : Work → List ℕ → Result Begun Status → Outcome → Type 0
+IsBegunOutcome work input (Err status) outcome = outcome ≡ ended status 0 0 []
+IsBegunOutcome work input (Ok b) outcome = IsWorkOutcome work b.acts b.machine input outcome
+
+-- what the job of the words may come to, over what the files hold and the whole input; none is refused
+abbrev pub IsOutcome : Option Job → Held → List ℕ → Outcome → Type 0
+IsOutcome None held input outcome = outcome ≡ ended Usage 0 0 []
+IsOutcome (Some job) held input outcome = IsBegunOutcome job.work input (begun held job.begin) outcome
+
+-- ---- what depends on a job's parts alone
+
+abbrev pub refusal_in : Result Begun Status → Option Status
+refusal_in (Ok b) = None
+refusal_in (Err status) = Some status
+
+-- the refusal of the job that the words name, if there is one: whatever the input has left
+abbrev pub refusal_of : Option Job → Held → Option Status
+refusal_of None held = Some Usage
+refusal_of (Some job) held = refusal_in (begun held job.begin)
+
+-- every file that a beginning reads is held
+abbrev pub HoldsBegin : Option Held → Begin → Type 0
+HoldsBegin told (FromConfig name) = HoldsConfig told name
+HoldsBegin told (FromImage name) = IsHeld told name
+
+-- every file that a job reads is held
+abbrev pub HoldsJob : Option Held → Option Job → Type 0
+HoldsJob told None = ⊤
+HoldsJob told (Some job) = HoldsBegin told job.begin
+
+-- what a work uses
+abbrev pub work_uses : Work → Counted → Type 0
+work_uses (Turns turns logs) counted = log_uses logs counted
+
+-- what a job uses: its beginning reads files
+abbrev pub job_uses : Option Job → Counted → Type 0
+job_uses None counted = ⊥
+job_uses (Some job) counted = (counted ≡ Reading) ⊎ work_uses job.work counted
+
+-- what a status needs beside its class: Usage, that the words name no job, and BadConfig, that it carries no want of
+-- memory
+pub record Fits (status : Status) (job : Option Job) : Type 0 where
+  pub usage : status ≡ Usage → job ≡ None
+  pub config : (fault : ConfigFault) → status ≡ BadConfig fault → fault ≢ config_fault.NoMemory

@@ -1,0 +1,4 @@
+pub mod Job
+pub mod CommandLine
+pub mod Seen
+pub mod Places

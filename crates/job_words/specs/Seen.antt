@@ -1,0 +1,31 @@
+-- A job of the program as the definitions see it.
+use Rattle.std.specs.Prelude.{◌≤◌, ℕ, List}
+use Rattle.std.specs.Borrow.{Bor}
+use Rattle.job_words.specs.declared.jobs.Begin.{Begin as NamedBegin}
+use Rattle.job_words.specs.declared.jobs.Begin.TheVariants.{Config, Image}
+use Rattle.job_words.specs.declared.jobs.Work.{Work as NamedWork}
+use Rattle.job_words.specs.declared.jobs.Work.TheVariants as named
+use Rattle.job_words.specs.declared.jobs.Job.{Job as NamedJob}
+use Rattle.job_words.specs.Job.{Begin, FromConfig, FromImage, Job, Turns, Work}
+use Rattle.job_words.specs.CommandLine.{most_turns}
+
+abbrev pub text_seen : Bor (List ℕ) → List ℕ
+text_seen text = text.now
+
+abbrev pub begin_seen : NamedBegin → Begin
+begin_seen (Config name) = FromConfig (text_seen name)
+begin_seen (Image name) = FromImage (text_seen name)
+
+abbrev pub work_seen : NamedWork → Work
+work_seen (named.Turns turns logs) = Turns turns logs
+
+abbrev pub job_seen : NamedJob → Job
+job_seen job = record { begin = begin_seen job.begin; work = work_seen job.work }
+
+-- a work makes no more turns than a call may make
+abbrev pub MakesFewTurns : NamedWork → Type 0
+MakesFewTurns (named.Turns turns logs) = turns ≤ most_turns
+
+-- a job makes no more turns than a call may make
+abbrev pub HasFewTurns : NamedJob → Type 0
+HasFewTurns job = MakesFewTurns job.work

@@ -1,0 +1,80 @@
+// The commands: one function for each row, and the one that chooses among them.
+
+ghost use Rattle.std.specs.Prelude.{◌≡◌, IfSome};
+ghost use Rattle.std.specs.Option.{option_copied, option_map};
+ghost use Rattle.job_words.specs.CommandLine.{job_of, job_with, logs_in, row_job, run_begin, run_row, texts, turns_work};
+ghost use Rattle.job_words.specs.Seen.{HasFewTurns, MakesFewTurns, begin_seen, job_seen, work_seen};
+
+use crate::jobs::{Begin, Job, Logs, Work};
+use crate::values::{MOST_TURNS, file_name, number};
+use crate::walk::walk;
+
+/// The job that the words name, none where they name no job.
+pub fn named_job(words: &[String]) -> Option<Job<'_>>
+    ensures job { option_map job_seen result ≡ job_of (texts words.now) }
+    ensures few { IfSome result HasFewTurns }
+{
+    let (command, others) = words.split_first()?;
+    match command.as_str() {
+        "run" => run_job(others),
+        _ => None,
+    }
+}
+
+/// The job of the words after `run`.
+fn run_job(words: &[String]) -> Option<Job<'_>>
+    ensures job { option_map job_seen result ≡ row_job run_row (texts words.now) }
+    ensures few { IfSome result HasFewTurns }
+{
+    let names = ["--turns", "--config", "--image", "--trace"];
+    let mut values = [None; 4];
+    if !walk(&names, words, &mut values) {
+        return None;
+    }
+    let [turns, config, image, trace] = values;
+    job_with(run_begin(config, image), turns_work(turns, trace))
+}
+
+/// The job of these parts, where both are there.
+fn job_with<'a>(begin: Option<Begin<'a>>, work: Option<Work<'a>>) -> Option<Job<'a>>
+    requires few { IfSome work MakesFewTurns }
+    ensures job { option_map job_seen result
+        ≡ job_with (option_map begin_seen begin.entry) (option_map work_seen work.entry) }
+    ensures few { IfSome result HasFewTurns }
+{
+    Some(Job {
+        begin: begin?,
+        work: work?,
+    })
+}
+
+/// The one beginning among a configuration and a flat image.
+fn run_begin<'a>(config: Option<&'a str>, image: Option<&'a str>) -> Option<Begin<'a>>
+    ensures { option_map begin_seen result ≡ run_begin (option_copied config.entry) (option_copied image.entry) }
+{
+    match (config, image) {
+        (Some(config), None) => Some(Begin::Config(file_name(config)?)),
+        (None, Some(image)) => Some(Begin::Image(file_name(image)?)),
+        (Some(_), Some(_)) | (None, None) => None,
+    }
+}
+
+/// So many turns, logged to these files.
+fn turns_work<'a>(turns: Option<&'a str>, trace: Option<&'a str>) -> Option<Work<'a>>
+    ensures work { option_map work_seen result ≡ turns_work (option_copied turns.entry) (option_copied trace.entry) }
+    ensures few { IfSome result MakesFewTurns }
+{
+    let turns = number(turns?, MOST_TURNS)?;
+    let logs = logs(trace)?;
+    Some(Work::Turns { turns, logs })
+}
+
+/// The logs of these files.
+fn logs<'a>(trace: Option<&'a str>) -> Option<Logs<'a>>
+    ensures { result ≡ logs_in (option_copied trace.entry) }
+{
+    match trace {
+        Some(trace) => Some(Logs::new(Some(file_name(trace)?))),
+        None => Some(Logs::new(None)),
+    }
+}

@@ -1,0 +1,5 @@
+pub mod Telling
+pub mod Filling
+pub mod Quiets
+pub mod Starts
+pub mod Refusals

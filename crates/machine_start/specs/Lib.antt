@@ -1,0 +1,4 @@
+pub mod Reading
+pub mod Start
+pub mod Refusal
+pub mod Quiet

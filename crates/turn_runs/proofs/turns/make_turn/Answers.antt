@@ -1,0 +1,20 @@
+-- The turn was made, or the input failed.
+use Rattle.turn_runs.proofs.OneTurn.{turn_made, turn_unread}
+use Rattle.turn_runs.proofs.turns.make_turn.Goals as goal
+
+pub returns-in-Err-clause-cut : goal.returns-in-Err-clause-cut
+returns-in-Err-clause-cut g c = λ bytes from fed. turn_unread c.in-Err.ensures.unread fed
+
+pub returns-clause-turned : goal.returns-clause-turned
+returns-clause-turned g c = λ bytes from fed.
+    let turn = c.turn-end.ensures in
+    turn_made c.in-Ok.ensures.filled fed
+    (record {
+      end_is = turn.end;
+      machine_is = turn.machine;
+      console_is = turn.console;
+      events_are = turn.events;
+      least = turn.grows;
+      most = turn.at_most_one;
+    })
+    (cc (c.taken.ensures, c.taken-before.ensures)) c.offered.ensures.held c.offered.ensures.ended

@@ -1,0 +1,4 @@
+pub mod Feeding
+pub mod Run
+pub mod Reaching
+pub mod Leaves

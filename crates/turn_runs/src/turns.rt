@@ -1,0 +1,134 @@
+// One turn of a run: the input, the steps, the console and the logs.
+
+ghost use Rattle.std.specs.Prelude.{◌≡◌, ◌<◌, ◌≤◌, ◌+◌, ◌++◌, ◌∷◌, [], All, IfErr, IfOk, OnOk};
+ghost use Rattle.commit_log.specs.Spelling.{HasSpelling};
+ghost use Rattle.outside_acts.specs.Acts.{DidCut, ReadTo};
+ghost use Rattle.outside_acts.specs.Calls.{Caused, Does, GoesQuietly, Only, Stops};
+ghost use Rattle.outside_acts.specs.World.{Console, TheInput};
+ghost use Rattle.turn_runs.specs.Reaching.{HoldsLogs, IsShown, IsTurned, OverInput, log_uses};
+ghost use Rattle.turn_runs.specs.Run.{log_acts, send_acts, trace_lines, turn_acts, turn_on};
+
+use crate::feed::Feed;
+use commit_log::{LineBuf, write};
+use hart_step::Event;
+use hart_turns::{Machine, TurnEnd};
+use job_words::Logs;
+use outside_acts::{Outside, Stop};
+use std::alloc::AllocError;
+
+/// Reads the byte that is offered, and makes the turn.
+fn make_turn<W: Outside>(
+    machine: &mut Machine,
+    feed: &mut Feed,
+    outside: &mut W,
+) -> Result<TurnEnd, Stop>
+    requires { machine.old.machine.taken < 2_000_000_000_000 }
+    ensures turned { IfOk result (λ end. OverInput machine.old.machine feed.old (W.world outside.old) (λ bytes from.
+        IsTurned bytes from machine.old.machine machine.new end
+        feed.new (W.world outside.old) (W.world outside.new))) }
+    ensures cut { IfErr result (λ stop. OverInput machine.old.machine feed.old (W.world outside.old) (λ bytes from.
+        DidCut stop bytes from (ReadTo (machine.old.machine.taken + 1) ∷ [])
+        (W.world outside.old) (W.world outside.new))) }
+    ensures cause { Caused (Only TheInput) result (W.world outside.old) (W.world outside.new) }
+    ensures calm { W.quiet outside.old → GoesQuietly (W.quiet outside.new) result }
+    ensures takes_one { machine.new.machine.taken ≤ machine.old.machine.taken + 1 }
+{
+    match feed.fill(outside) {
+        Ok(()) => {}
+        Err(stop) => return Err(stop),
+    }
+    let before = machine.taken();
+    let end = machine.turn(feed.held);
+    feed.offered(machine.taken() != before);
+    Ok(end)
+}
+
+/// Sends the console bytes of the last turn, where there are any.
+fn show<W: Outside>(machine: &Machine, outside: &mut W) -> Result<(), Stop>
+    ensures whole { OnOk result (Does (send_acts machine.now.console) (W.world outside.old) (W.world outside.new)) }
+    ensures cut { IfErr result (λ stop.
+        Stops stop (send_acts machine.now.console) (W.world outside.old) (W.world outside.new)) }
+    ensures cause { Caused (Only Console) result (W.world outside.old) (W.world outside.new) }
+    ensures calm { W.quiet outside.old → GoesQuietly (W.quiet outside.new) result }
+{
+    if machine.output().is_empty() {
+        return Ok(());
+    }
+    outside.send(machine.output())
+}
+
+/// Appends the lines of events to a text.
+fn push_lines(text: &mut Vec<u8>, events: &[Event]) -> Result<(), AllocError>
+    requires { All HasSpelling events.now }
+    ensures { OnOk result (text.new.items ≡ text.old.items ++ trace_lines events.now) }
+{
+    let mut line = LineBuf::new();
+    for event in events {
+        write(event, &mut line);
+        text.extend_from_slice(line.bytes())?;
+        text.push(b'\n')?;
+    }
+    Ok(())
+}
+
+/// Appends the lines of the last turn to the trace, where there is one. `text` is a buffer that is used again in each
+/// turn.
+#[tactic(auto, using(crate::proofs::Lines::events_spelled))]
+fn log<W: Outside>(
+    machine: &Machine,
+    logs: &Logs<'_>,
+    text: &mut Vec<u8>,
+    outside: &mut W,
+) -> Result<(), Stop>
+    ensures whole { OnOk result
+        (Does (log_acts logs.now machine.now.events) (W.world outside.old) (W.world outside.new)) }
+    ensures cut { IfErr result (λ stop.
+        Stops stop (log_acts logs.now machine.now.events) (W.world outside.old) (W.world outside.new)) }
+    ensures cause { Caused (log_uses logs.now) result (W.world outside.old) (W.world outside.new) }
+    ensures calm { W.quiet outside.old → HoldsLogs logs.now (W.world outside.old) →
+        GoesQuietly (W.quiet outside.new) result }
+{
+    let Some(name) = logs.trace() else {
+        return Ok(());
+    };
+    text.clear();
+    match push_lines(text, machine.events()) {
+        Ok(()) => {}
+        Err(_) => return Err(Stop::NoMemory),
+    }
+    outside.append(name, text.as_slice())
+}
+
+/// One turn of a run: reads the byte that is offered, makes the turn, sends its console bytes and logs its events.
+pub(crate) fn run_turn<W: Outside>(
+    machine: &mut Machine,
+    feed: &mut Feed,
+    logs: &Logs<'_>,
+    text: &mut Vec<u8>,
+    outside: &mut W,
+) -> Result<TurnEnd, Stop>
+    requires { machine.old.machine.taken < 2_000_000_000_000 }
+    ensures shown { IfOk result (λ end. OverInput machine.old.machine feed.old (W.world outside.old) (λ bytes from.
+        IsShown logs.now bytes from machine.old.machine machine.new.machine end
+        feed.new (W.world outside.old) (W.world outside.new))) }
+    ensures cut { IfErr result (λ stop. OverInput machine.old.machine feed.old (W.world outside.old) (λ bytes from.
+        DidCut stop bytes from (turn_acts logs.now machine.old.machine (turn_on bytes machine.old.machine))
+        (W.world outside.old) (W.world outside.new))) }
+    ensures cause { Caused (log_uses logs.now) result (W.world outside.old) (W.world outside.new) }
+    ensures calm { W.quiet outside.old → HoldsLogs logs.now (W.world outside.old) →
+        GoesQuietly (W.quiet outside.new) result }
+    ensures takes_one { machine.new.machine.taken ≤ machine.old.machine.taken + 1 }
+{
+    let end = match make_turn(machine, feed, outside) {
+        Ok(end) => end,
+        Err(stop) => return Err(stop),
+    };
+    match show(machine, outside) {
+        Ok(()) => {}
+        Err(stop) => return Err(stop),
+    }
+    match log(machine, logs, text, outside) {
+        Ok(()) => Ok(end),
+        Err(stop) => Err(stop),
+    }
+}
