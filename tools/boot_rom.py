@@ -1,8 +1,8 @@
 #!/usr/bin/env python3
 """Boot ROMs for the tests of crates/rom_gen, made from the description of a machine by the layout's own words, with the words of
 an assembler (llvm-mc). It shares nothing with the crates. Each ROM is also executed here, by an interpreter of the few instructions that
-ROMs need, and has to lead to the machine that it was made from. Run by hand: `boot_rom.py words` prints src/tests_words.rt and `boot_rom.py
-numbers` prints src/tests_numbers.rt."""
+ROMs need, and has to lead to the machine that it was made from. Run by hand: `boot_rom.py words` prints src/tests/words.rt and `boot_rom.py
+numbers` prints src/tests/numbers.rt."""
 import sys
 import textwrap
 from instruction_rows import ROWS, decode

@@ -1,6 +1,6 @@
 #!/usr/bin/env python3
 """Expected steps for the tests of a step in crates/hart_turns, as reference_machine.py takes them. Run by hand, where llvm-mc
-is, as `step_rows.py traps`: it prints the tables of src/step_tests_traps.rt, each row with its instruction, and so for
+is, as `step_rows.py traps`: it prints the tables of src/tests/steps/traps.rt, each row with its instruction, and so for
 registers, memory and atomic."""
 import re
 import subprocess

@@ -1,3 +1,5 @@
+//! The registers of boards by tables, the signals of harts, and the host window.
+
 ghost use Rattle.std.specs.Prelude.{◌≡◌, IfOk};
 ghost use Rattle.board_bus.specs.Board.{hart_count};
 

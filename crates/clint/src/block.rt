@@ -52,6 +52,13 @@ impl Clint {
         }
     }
 
+    /// The registers are well formed.
+    pub fn see_fit(&self)
+        ensures { IsFit self.now }
+    {
+        let _mtime = self.mtime;
+    }
+
     /// The value of the register of `size` bytes at offset `off`.
     ///
     /// # Errors
@@ -62,7 +69,6 @@ impl Clint {
         ensures listed { is_ok result ≡ is_listed (hart_count self.now) off size }
         ensures value { result_ok result ≡ loaded self.now off size }
         ensures fits { IfOk result (λ v. v < 256 ^ size) }
-        ensures fit { IsFit self.now }
     {
         match register_at(self.harts, off, size) {
             Some(register) => Ok(self.value_of(register)),
@@ -125,8 +131,7 @@ impl Clint {
 
     /// The timer, `mtime`.
     pub fn time(&self) -> u64
-        ensures value { result ≡ self.now.mtime }
-        ensures fit { IsFit self.now }
+        ensures { result ≡ self.now.mtime }
     {
         self.mtime
     }

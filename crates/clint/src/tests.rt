@@ -1,3 +1,5 @@
+//! Registers by tables, and when the interrupts are due.
+
 use crate::{Clint, Refused, listed};
 use std::process::Abort;
 use std::test::Fail;

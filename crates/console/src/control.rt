@@ -1,4 +1,4 @@
-// The control bits.
+//! The control bits.
 
 ghost use Rattle.std.specs.Prelude.{◌≡◌, ◌∷◌, ◌%◌, [], ⊤, codes};
 

@@ -59,6 +59,13 @@ impl Console {
         }
     }
 
+    /// The registers are well formed.
+    pub fn see_fit(&self)
+        ensures { IsFit self.now }
+    {
+        let _count = self.count;
+    }
+
     /// The value of the register of `size` bytes at offset `off`. Reading data takes the first byte that
     /// waits.
     ///
@@ -139,8 +146,7 @@ impl Console {
 
     /// How many bytes wait.
     pub fn waiting(&self) -> usize
-        ensures value { result ≡ length self.now.queue }
-        ensures fit { IsFit self.now }
+        ensures { result ≡ length self.now.queue }
     {
         self.count
     }
@@ -155,8 +161,7 @@ impl Console {
 
     /// The register ctrl.
     pub fn ctrl(&self) -> u32
-        ensures value { result ≡ self.now.ctrl }
-        ensures fit { IsFit self.now }
+        ensures { result ≡ self.now.ctrl }
     {
         self.ctrl.bits()
     }

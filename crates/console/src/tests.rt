@@ -1,3 +1,5 @@
+//! Registers by tables, the queue, and what goes out.
+
 use crate::{Console, OutBuf, Refused, listed};
 use guest_ram::{BASE, GuestRam};
 use std::process::Abort;

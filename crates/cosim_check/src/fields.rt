@@ -1,4 +1,4 @@
-// The fields of a record.
+//! The fields of a record.
 
 ghost use Rattle.std.specs.Prelude.{◌≡◌};
 ghost use Rattle.cosim_check.specs.Fields.{differs_in, exception_value, first_difference, host_value, interrupt_value, mode_number, value_of};

@@ -1,4 +1,4 @@
-// The judge of a stream.
+//! The judge of a stream.
 
 ghost use Rattle.std.specs.Prelude.{◌≡◌, ◌<◌, ◌≤◌, ◌++◌, ◌∷◌, [], take, ℕ, List, IsFalse, IsTrue, false, is_none, true, length};
 ghost use Rattle.hart_step.specs.Harts.{CoreState, lowest_in_debug};

@@ -12,10 +12,6 @@ mod record;
 mod same;
 #[cfg(test)]
 mod tests;
-#[cfg(test)]
-mod tests_records;
-#[cfg(test)]
-mod tests_streams;
 mod told;
 mod verdict;
 

@@ -1,4 +1,4 @@
-// One line.
+//! One line.
 
 ghost use Rattle.std.specs.Prelude.{◌≡◌, ◌+◌, ◌<◌, ◌^◌, IfSome, IsNone, length};
 ghost use Rattle.commit_log.specs.Column.{IsColumn};

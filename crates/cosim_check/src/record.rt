@@ -1,4 +1,4 @@
-// One record.
+//! One record.
 
 ghost use Rattle.std.specs.Prelude.{◌≡◌, ◌≢◌, IsNone, None, length, nat_lt, if◌then◌else◌, Some};
 ghost use Rattle.hart_step.specs.declared.event.Event.TheVariants.{Host, Interrupt};

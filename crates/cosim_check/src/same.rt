@@ -1,4 +1,4 @@
-// Whether two commits are the same, in few instructions: nearly every record of a stream is.
+//! Whether two commits are the same, in few instructions: nearly every record of a stream is.
 
 ghost use Rattle.std.specs.Prelude.{◌≡◌, IsTrue};
 

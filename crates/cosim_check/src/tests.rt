@@ -1,9 +1,12 @@
-// Programs, the traces that they leave, and what the tests of a judge share. The words are those of an
-// assembler (llvm-mc), each with its assembly beside it; traces and verdicts are reckoned by hand from the
-// manuals.
+//! Programs, the traces that they leave, and what the tests of a judge share. The words are those of an
+//! assembler (llvm-mc), each with its assembly beside it; traces and verdicts are reckoned by hand from the
+//! manuals.
 
 ghost use Rattle.std.specs.Prelude.{IsTrue};
 ghost use Rattle.cosim_check.specs.Standing.{HasWindow};
+
+mod records;
+mod streams;
 
 use crate::{Judge, Verdict};
 use guest_ram::{BASE, GuestRam};

@@ -1,4 +1,4 @@
-// What a judge answers the steps that it makes again.
+//! What a judge answers the steps that it makes again.
 
 ghost use Rattle.std.specs.Prelude.{◌≡◌, ◌<◌, IsTrue, Some, None, false, length};
 ghost use Rattle.trap_rules.specs.Interrupt.{may_be_taken};

@@ -1,4 +1,4 @@
-// What a judge says of a stream.
+//! What a judge says of a stream.
 
 /// A field of a record, in the order in which they are compared.
 #[derive(Clone, Copy, PartialEq, Eq, Debug)]

@@ -1,3 +1,5 @@
+//! Rows by a table.
+
 use crate::row_at;
 
 #[test]

@@ -2,7 +2,7 @@
 use Rattle.std.specs.Prelude.{◌≡◌, ◌≤◌, ◌<◌, ◌⊎◌, ◌+◌, ◌-◌, ◌*◌, ◌%◌, ◌==◌, ◌&&◌, ℕ, zero, suc, List, Bool, not, nat_lt, nat_le, nat_eq, if◌then◌else◌, Option, Some, None, length, map, replicate, slice_index}
 use Rattle.std.specs.List.{range_with_len, starts_with}
 use Rattle.std.specs.Option.{option_or}
-use Rattle.guest_ram.specs.Bytes.{base}
+use Rattle.guest_ram.specs.Bytes.{IsInRam, base, is_in_ram}
 use Rattle.elf_load.specs.First.{first_of}
 use Rattle.elf_load.specs.Format.{header_of, header_size, magic, reaches_past, segment_of, segment_size}
 use Rattle.elf_load.specs.declared.fault.ElfFault.{ElfFault}
@@ -47,10 +47,6 @@ header_fault file =
 -- the segment is one to load (PT_LOAD)
 abbrev pub is_loaded : Segment → Bool
 is_loaded s = s.kind == 1
-
--- the n bytes from the address `at` all lie in a memory of ram_len bytes
-abbrev pub is_in_ram : ℕ → ℕ → ℕ → Bool
-is_in_ram ram_len at n = nat_le base at && nat_le (at + n) (base + ram_len)
 
 -- the first fault of the segment of index i, if it is one to load: it has fewer bytes in memory than
 -- in the file, its bytes reach past the end of the file, or its place in memory is not all in RAM
@@ -113,7 +109,7 @@ IsZero ram = ram ≡ replicate (length ram) 0
 pub record FitsIn (len ram_len : ℕ) (s : Segment) : Type 0 where
   pub grows : s.filesz ≤ s.memsz
   pub in_file : (s.filesz ≡ 0) ⊎ (s.offset + s.filesz ≤ len)
-  pub in_ram : (s.memsz ≡ 0) ⊎ ((base ≤ s.paddr) × (s.paddr + s.memsz ≤ base + ram_len))
+  pub in_ram : (s.memsz ≡ 0) ⊎ IsInRam ram_len s.paddr s.memsz
 
 -- the memory `new` is `old` with the segment's bytes at the addresses that it covers
 pub record IsLaid (file : List ℕ) (s : Segment) (old new : List ℕ) : Type 0 where

@@ -1,19 +1,19 @@
-// The checks that come before the first write to memory.
+//! The checks that come before the first write to memory.
 
 ghost use Rattle.std.specs.Prelude.{◌≡◌, IfOk};
 ghost use Rattle.elf_load.specs.Format.{header_of, reaches_past};
-ghost use Rattle.elf_load.specs.Loading.{HasHeader, field_fault, header_fault, is_in_ram, segment_fault, segments_fault, table_fault};
+ghost use Rattle.elf_load.specs.Loading.{HasHeader, field_fault, header_fault, segment_fault, segments_fault, table_fault};
 ghost use Rattle.elf_load.specs.Refusal.{RefusedBy};
 
 use crate::fault::{ElfFault, ElfField};
 use crate::format::{FileHeader, HEADER_SIZE, SEGMENT_SIZE, Segment};
-use guest_ram::BASE;
+use guest_ram::is_in_ram;
 
 // What an ELF file begins with.
 const MAGIC: [u8; 4] = [0x7f, 0x45, 0x4c, 0x46];
 
-// The greatest length of a file.
-const LONGEST_FILE: u64 = 0x400_0000;
+/// The greatest length of a file.
+pub const LONGEST_FILE: u64 = 0x400_0000;
 
 // The wanted values of the header's fields: ELFCLASS64, ELFDATA2LSB, ET_EXEC and EM_RISCV.
 const CLASS_64: u8 = 2;
@@ -32,13 +32,6 @@ pub(crate) fn reaches_past(len: u64, at: u64, n: u64) -> bool
     ensures { result ≡ reaches_past len at n }
 {
     at > len || n > len - at
-}
-
-// Whether the `n` bytes from the address `at` all lie in a memory of `ram_len` bytes.
-fn is_in_ram(ram_len: u64, at: u64, n: u64) -> bool
-    ensures { result ≡ is_in_ram ram_len at n }
-{
-    at >= BASE && !reaches_past(ram_len, at - BASE, n)
 }
 
 impl FileHeader {

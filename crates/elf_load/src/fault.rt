@@ -1,4 +1,4 @@
-// What is wrong with a file.
+//! What is wrong with a file.
 
 /// A field of an ELF file whose value is refused.
 #[derive(Clone, Copy, PartialEq, Eq, Debug)]

@@ -1,4 +1,4 @@
-// The records of an ELF64 file. The fields have the standard's names, without their prefixes.
+//! The records of an ELF64 file. The fields have the standard's names, without their prefixes.
 
 ghost use Rattle.std.specs.Prelude.{◌≡◌, ◌+◌, ◌*◌, ◌≤◌, length};
 ghost use Rattle.elf_load.specs.Format.{field, header_of, header_size, section_at, section_of, section_size, segment_at, segment_of, segment_size, symbol_at, symbol_of, symbol_size};

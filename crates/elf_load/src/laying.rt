@@ -1,4 +1,4 @@
-// Writes the segments to memory.
+//! Writes the segments to memory.
 
 ghost use Rattle.std.specs.Prelude.{◌≡◌, ◌+◌, ◌-◌, ◌≤◌, ◌⊎◌, ◌++◌, IsTrue, None, length, take, drop, replicate};
 ghost use Rattle.elf_load.specs.Format.{header_of};

@@ -15,6 +15,7 @@ mod naming;
 #[cfg(test)]
 mod tests;
 
+pub use checks::LONGEST_FILE;
 pub use fault::{ElfFault, ElfField};
 pub use loading::load;
 pub use naming::symbol;

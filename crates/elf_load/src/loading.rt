@@ -1,4 +1,4 @@
-// The loader's call.
+//! The loader's call.
 
 ghost use Rattle.std.specs.Prelude.{◌≡◌, IfOk, OnErr, OnOk, length};
 ghost use Rattle.elf_load.specs.Loading.{HasHeader, IsZero, entry_of, load_fault, loaded_memory};

@@ -1,4 +1,4 @@
-// The call that finds a symbol.
+//! The call that finds a symbol.
 
 ghost use Rattle.std.specs.Prelude.{◌≡◌, ◌+◌, ◌*◌, ◌≤◌, length};
 ghost use Rattle.elf_load.specs.Format.{header_of, section_bytes, section_size};

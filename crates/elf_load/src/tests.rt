@@ -1,3 +1,5 @@
+//! Files by their fields: each fault, what is laid in memory, and symbols.
+
 mod program;
 
 use crate::{ElfFault, ElfField, load, symbol};

@@ -16,14 +16,23 @@ pub record IsBounded (ram : List ℕ) : Type 0 where
   pub some : 0 < length ram
   pub most : length ram ≤ most_bytes
 
--- the n bytes from the address `at` all lie in the region; with n = 0, `at` lies in it or one past its end
-pub record HasPart (ram : List ℕ) (at n : ℕ) : Type 0 where
+-- the n bytes from the address `at` all lie in a region of so many bytes; with n = 0, `at` lies in it or
+-- one past its end
+pub record IsInRam (ram_len at n : ℕ) : Type 0 where
   pub low : base ≤ at
-  pub high : at + n ≤ base + length ram
+  pub high : at + n ≤ base + ram_len
+
+-- the same as a test
+abbrev pub is_in_ram : ℕ → ℕ → ℕ → Bool
+is_in_ram ram_len at n = nat_le base at && nat_le (at + n) (base + ram_len)
+
+-- the n bytes from the address `at` all lie in the region
+abbrev pub HasPart : List ℕ → ℕ → ℕ → Type 0
+HasPart ram at n = IsInRam (length ram) at n
 
 -- the same as a test
 abbrev pub has_part : List ℕ → ℕ → ℕ → Bool
-has_part ram at n = nat_le base at && nat_le (at + n) (base + length ram)
+has_part ram at n = is_in_ram (length ram) at n
 
 -- the n bytes from the address `at`
 abbrev pub part_of : List ℕ → ℕ → ℕ → List ℕ

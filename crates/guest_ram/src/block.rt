@@ -1,6 +1,6 @@
-// The unsafe core: a block of bytes from the allocator, lent as a buffer.
-//
-// `take` and `give_back` are the only code of the crate that has to do with raw memory.
+//! The unsafe core: a block of bytes from the allocator, lent as a buffer.
+//!
+//! `take` and `give_back` are the only code of the crate that has to do with raw memory.
 
 ghost use Rattle.std.specs.Prelude.{◌≡◌, ◌<◌, ◌^◌, [], IfOk, vec_capacity};
 ghost use Rattle.std.specs.Vec.{vec_ptr};

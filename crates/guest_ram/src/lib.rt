@@ -11,4 +11,4 @@ mod ram;
 mod tests;
 
 pub use page_table::PageTable;
-pub use ram::{BASE, GuestRam, NoMemory};
+pub use ram::{BASE, GuestRam, MOST_BYTES, NoMemory, is_in_ram};

@@ -1,4 +1,4 @@
-// The page-table walker's sight of guest memory.
+//! The page-table walker's sight of guest memory.
 
 ghost use Rattle.std.specs.Prelude.{◌≡◌, ◌+◌, ◌<◌, ◌↔◌, IsSome, IfSome};
 ghost use Rattle.guest_ram.specs.Bytes.{HasPart, IsAligned, number_at};

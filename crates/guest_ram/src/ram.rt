@@ -1,10 +1,10 @@
-// The region and its calls.
+//! The region and its calls.
 
 ghost use Rattle.std.specs.Prelude.{◌≡◌, ◌+◌, ◌<◌, ◌≤◌, ◌^◌, ◌↔◌, ℕ, List, [], length, replicate, IsTrue, IfOk, vec_len, vec_capacity};
 ghost use Rattle.std.specs.Vec.{vec_ptr};
 ghost use Rattle.std.specs.Borrow.{Array, Lends, sem, u8 as byte};
 ghost use Rattle.byteorder.specs.Endian.{little_bytes};
-ghost use Rattle.guest_ram.specs.Bytes.{HasPart, IsAligned, IsBounded, IsSize, has_part, most_bytes, number_at, part_of, with_part};
+ghost use Rattle.guest_ram.specs.Bytes.{HasPart, IsAligned, IsBounded, IsSize, has_part, is_in_ram, most_bytes, number_at, part_of, with_part};
 ghost use Rattle.guest_ram.specs.contracts.ram.GuestRam.{the_row};
 
 use crate::block::{Receipt, give_back, take};
@@ -18,6 +18,17 @@ pub type NoMemory = AllocError;
 
 /// The guest address of the first byte.
 pub const BASE: u64 = 0x8000_0000;
+
+/// The greatest length of a region, 256 MiB.
+pub const MOST_BYTES: u64 = 0x1000_0000;
+
+/// Whether the `n` bytes from `at` all lie in a region of `ram_len` bytes. For `n` 0: whether `at`
+/// lies in the region or one past its end.
+pub fn is_in_ram(ram_len: u64, at: u64, n: u64) -> bool
+    ensures { result ≡ is_in_ram ram_len at n }
+{
+    BASE <= at && n <= ram_len && at - BASE <= ram_len - n
+}
 
 /// A region of guest memory from [`BASE`] on, of at least 1 byte and at most 256 MiB.
 ///

@@ -1,3 +1,5 @@
+//! Reads and writes up to both ends of a region, and entries of page tables.
+
 use crate::{BASE, GuestRam, PageTable};
 use std::process::Abort;
 use std::test::Fail;

@@ -1,4 +1,4 @@
-// A machine within a boot.
+//! A machine within a boot.
 
 ghost use Rattle.std.specs.Prelude.{◌≡◌, ◌+◌, ◌*◌, ◌<◌, ◌≤◌, length};
 ghost use Rattle.board_bus.specs.Board.{hart_count};

@@ -1,4 +1,4 @@
-// The events of a turn, each written where it is kept.
+//! The events of a turn, each written where it is kept.
 
 ghost use Rattle.std.specs.Prelude.{◌≡◌, ◌<◌, ◌∷◌, ◌++◌, [], IfOk, length};
 ghost use Rattle.std.specs.Prelude.{All};

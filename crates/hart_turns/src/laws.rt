@@ -1,4 +1,4 @@
-// Laws of the definitions, each as the contract of a call that does nothing.
+//! Laws of the definitions, each as the contract of a call that does nothing.
 
 ghost use Rattle.hart_turns.specs.FitLaws.{BoardStepsStayFit, BootsStayFit, ClearingStaysFit, DebugResetIsFit, ResetIsFit, TurnsStayFit, TurnsStayRunning};
 ghost use Rattle.hart_turns.specs.Laws.{BoardIsAllowed, BootsEnd, LowestSteps};

@@ -11,31 +11,7 @@ mod outside;
 mod registers;
 mod running;
 #[cfg(test)]
-mod step_tests;
-#[cfg(test)]
-mod step_tests_atomic;
-#[cfg(test)]
-mod step_tests_debug;
-#[cfg(test)]
-mod step_tests_devices;
-#[cfg(test)]
-mod step_tests_memory;
-#[cfg(test)]
-mod step_tests_registers;
-#[cfg(test)]
-mod step_tests_traps;
-#[cfg(test)]
-mod step_tests_words;
-#[cfg(test)]
 mod tests;
-#[cfg(test)]
-mod tests_boot;
-#[cfg(test)]
-mod tests_reset;
-#[cfg(test)]
-mod tests_timer;
-#[cfg(test)]
-mod tests_window;
 
 pub use booting::BootFault;
 pub use laws::{

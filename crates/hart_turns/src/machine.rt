@@ -1,4 +1,4 @@
-// The machine and its turns.
+//! The machine and its turns.
 
 ghost use Rattle.std.specs.Prelude.{◌≡◌, ◌%◌, ◌<◌, ◌≤◌, ◌+◌, [], All, IfErr, IfOk, IsFalse, IsTrue, length};
 ghost use Rattle.board_bus.specs.Board.{reset_board, ticked};
@@ -142,7 +142,7 @@ impl Machine {
         ensures { IsFit self.now.machine }
     {
         self.running.core.see_fit();
-        let _time = self.running.outside.board.time();
+        self.running.outside.board.see_fit();
     }
 
     /// Whether no hart is in debug mode.

@@ -1,4 +1,4 @@
-// What stands around the harts: the devices, and the buffer of the console's output.
+//! What stands around the harts: the devices, and the buffer of the console's output.
 
 ghost use Rattle.std.specs.Prelude.{◌≡◌, ◌<◌};
 ghost use Rattle.csr_file.specs.View.{IsGiven};

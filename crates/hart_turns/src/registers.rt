@@ -1,4 +1,4 @@
-// The register that the board looks at, beside `mie`.
+//! The register that the board looks at, beside `mie`.
 #![tactic(auto, unfolding(csr_file::specs::Legal::keeps_value, csr_file::specs::Legal::slots, csr_file::specs::Legal::kept_slots, csr_file::specs::Kept::kept_value, csr_file::specs::Numbers::is_listed))]
 
 ghost use Rattle.std.specs.Prelude.{◌≡◌};

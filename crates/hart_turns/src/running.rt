@@ -1,4 +1,4 @@
-// A machine within a turn.
+//! A machine within a turn.
 
 ghost use Rattle.std.specs.Prelude.{◌≡◌, ◌⊎◌, ◌+◌, ◌*◌, ◌<◌, ◌≤◌, ◌%◌, [], All, length};
 ghost use Rattle.guest_ram.specs.Bytes.{HasPart};

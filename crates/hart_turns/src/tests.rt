@@ -1,10 +1,16 @@
-// Small programs, and the turns that they make. The words are those of an assembler (llvm-mc), each with
-// its assembly beside it, and the expected events and registers are reckoned by hand from the manuals.
+//! Small programs, and the turns that they make. The words are those of an assembler (llvm-mc), each with
+//! its assembly beside it, and the expected events and registers are reckoned by hand from the manuals.
 
 ghost use Rattle.std.specs.Prelude.{IsTrue};
 ghost use Rattle.sim_config.specs.Ranges.{IsShape};
 
-use crate::step_tests::same;
+mod boot;
+mod host_window;
+mod reset;
+mod steps;
+mod timer;
+
+use crate::tests::steps::same;
 use crate::{Machine, NoMemory, TurnEnd};
 use Shown::{Loaded, Nothing, Stored, Volatile, Won, Wrote};
 use guest_ram::{BASE, GuestRam};

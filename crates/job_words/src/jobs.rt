@@ -1,4 +1,4 @@
-// Jobs: where a machine begins, and what is done with it.
+//! Jobs: where a machine begins, and what is done with it.
 
 ghost use Rattle.std.specs.Prelude.{◌≡◌};
 ghost use Rattle.std.specs.Option.{option_copied};

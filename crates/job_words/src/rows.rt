@@ -1,4 +1,4 @@
-// The commands: one function for each row, and the one that chooses among them.
+//! The commands: one function for each row, and the one that chooses among them.
 
 ghost use Rattle.std.specs.Prelude.{◌≡◌, IfSome};
 ghost use Rattle.std.specs.Option.{option_copied, option_map};

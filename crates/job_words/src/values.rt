@@ -1,4 +1,4 @@
-// The values of the pairs: numbers and file names.
+//! The values of the pairs: numbers and file names.
 
 ghost use Rattle.std.specs.Prelude.{◌≡◌, ◌<◌, ◌==◌, ◌&&◌, IfSome, ◌≤◌, length, nat_lt, slice_index};
 ghost use Rattle.std.specs.Char.{is_ascii_digit};

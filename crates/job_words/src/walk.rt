@@ -1,4 +1,4 @@
-// The pairs of name and value after a command, in one walk.
+//! The pairs of name and value after a command, in one walk.
 
 ghost use Rattle.std.specs.Prelude.{◌≡◌, ◌≤◌, IsFalse, IsTrue, List, length, ℕ};
 ghost use Rattle.std.specs.List.{position};

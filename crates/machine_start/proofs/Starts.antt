@@ -10,8 +10,8 @@ use Rattle.sim_config.specs.declared.fault.ConfigFault.{ConfigFault}
 use Rattle.sim_config.specs.declared.fault.ConfigFault.TheVariants as config_fault
 use Rattle.sim_config.specs.declared.values.Config.{Config}
 use Rattle.sim_config.specs.Faults.{is_host_word}
-use Rattle.sim_config.specs.Ranges.{IsConfig, IsInRam, IsWindow}
-use Rattle.sim_config.specs.Reading.{config_of, most_bytes, text_fault}
+use Rattle.sim_config.specs.Ranges.{IsConfig, IsHostWord, IsWindow}
+use Rattle.sim_config.specs.Reading.{config_of, longest_text, text_fault}
 use Rattle.sim_config.proofs.RangeLemmas.{in_ram}
 use Rattle.elf_load.specs.declared.fault.ElfFault.{ElfFault}
 use Rattle.elf_load.specs.declared.fault.ElfFault.TheVariants.{OutsideRam, TooLong, WrongKind}
@@ -65,16 +65,16 @@ image_too_long held name long =
 
 -- ---- a configuration
 
-too_long_text : (text : List ℕ) → most_bytes < length text → config_of text ≡ Err (config_fault.TooLong (length text))
+too_long_text : (text : List ℕ) → longest_text < length text → config_of text ≡ Err (config_fault.TooLong (length text))
 unfolding config_of text_fault
-too_long_text text long = let tested = above most_bytes (length text) long in rw tested refl
+too_long_text text long = let tested = above longest_text (length text) long in rw tested refl
 
 -- a configuration's fault is that of the start
 pub config_faulty : (held : Held) (name : List ℕ) (fault : ConfigFault) → config_of (file_of held name) ≡ Err fault → start_of_config held name ≡ Err (start_fault.Config fault)
 unfolding start_of_config
 config_faulty held name fault is = ap (program_of held) is
 
-pub config_too_long : (held : Held) (name : List ℕ) (len : ℕ) → len ≡ length (file_of held name) → most_bytes < length (file_of held name) → start_of_config held name ≡ Err (start_fault.Config (config_fault.TooLong len))
+pub config_too_long : (held : Held) (name : List ℕ) (len : ℕ) → len ≡ length (file_of held name) → longest_text < length (file_of held name) → start_of_config held name ≡ Err (start_fault.Config (config_fault.TooLong len))
 config_too_long held name len is long =
     config_faulty held name (config_fault.TooLong len) (too_long_text (file_of held name) long ∙ ap (λ (n : ℕ). Err (config_fault.TooLong n)) (sym is))
 
@@ -132,7 +132,7 @@ program_started config file zeros ram entry tohost zero loaded at =
 -- ---- what the caller may rely on
 
 word_window : (ram_len at tohost : ℕ) (b : Bool) → is_host_word ram_len at ≡ b → Ok tohost ≡ (if b then Ok at else Err (WrongKind Tohost)) → IsWindow ram_len tohost
-word_window ram_len at tohost true word is = let same : tohost ≡ at = cc in inr (subst (IsInRam ram_len) (sym same) (in_ram ram_len at word))
+word_window ram_len at tohost true word is = let same : tohost ≡ at = cc in inr (subst (IsHostWord ram_len) (sym same) (in_ram ram_len at word))
 word_window ram_len at tohost false word is = absurd (let is = is in cc)
 
 symbol_fits : (ram_len tohost : ℕ) (found : Result (Option ℕ) ElfFault) → Ok tohost ≡ symbol_window ram_len found → IsWindow ram_len tohost

@@ -1,4 +1,4 @@
-// The start of a configuration and its program.
+//! The start of a configuration and its program.
 
 ghost use Rattle.std.specs.Prelude.{◌≡◌, Err, IfErr, IfOk, IfSome, Ok};
 ghost use Rattle.outside_io.specs.Content.{IsHeld, file_of};
@@ -14,11 +14,8 @@ use crate::program::load_program;
 use crate::reading::{Contents, read_file};
 use crate::start::Start;
 use outside_io::Files;
-use sim_config::{Config, ConfigFault, read_config};
+use sim_config::{Config, ConfigFault, LONGEST_TEXT, read_config};
 use std::alloc::Global;
-
-/// The longest configuration.
-const LONGEST_CONFIG: u64 = 65_536;
 
 /// Reads a configuration. One of more than 65,536 bytes is refused.
 fn load_config<F: Files>(alloc: Global, files: &mut F, name: &str) -> Result<Config, StartFault>
@@ -31,7 +28,7 @@ fn load_config<F: Files>(alloc: Global, files: &mut F, name: &str) -> Result<Con
     ensures leaves { OnlyReads F.held F.read_faults F.write_faults files.old files.new result }
     ensures calm { F.quiet files.old → IsHeld (F.held files.old) name.now → GoesQuietly (F.quiet files.new) result }
 {
-    match read_file(alloc, files, name, LONGEST_CONFIG)? {
+    match read_file(alloc, files, name, LONGEST_TEXT)? {
         Contents::Bytes(text) => Ok(read_config(alloc, &text)?),
         Contents::TooLong(len) => Err(StartFault::Config(ConfigFault::TooLong(len))),
     }

@@ -1,4 +1,4 @@
-// Why there is no start.
+//! Why there is no start.
 
 use elf_load::ElfFault;
 use outside_io::OutFault;

@@ -1,4 +1,4 @@
-// The start of a flat image.
+//! The start of a flat image.
 
 ghost use Rattle.std.specs.Prelude.{◌≡◌, ◌≤◌, Err, IfErr, IfOk, IfSome, Ok, length};
 ghost use Rattle.outside_io.specs.Content.{IsHeld};

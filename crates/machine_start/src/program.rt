@@ -1,4 +1,4 @@
-// The start of the program that a configuration names.
+//! The start of the program that a configuration names.
 
 ghost use Rattle.std.specs.Prelude.{◌≡◌, ℕ, Err, IfErr, IfOk, IfSome, IsErrOf, Ok, Some, length};
 ghost use Rattle.outside_io.specs.Content.{IsHeld, file_of};
@@ -12,14 +12,11 @@ ghost use Rattle.machine_start.specs.Start.{IsStart, start_of_program, symbol_wi
 use crate::fault::StartFault;
 use crate::reading::{Contents, read_file};
 use crate::start::Start;
-use elf_load::{ElfFault, ElfField, load, symbol};
+use elf_load::{ElfFault, ElfField, LONGEST_FILE, load, symbol};
 use guest_ram::GuestRam;
 use outside_io::Files;
 use sim_config::{Config, Shape};
 use std::alloc::Global;
-
-/// The longest ELF file.
-const LONGEST_ELF: u64 = 0x400_0000;
 
 /// The host window at a symbol's value, which has to be a multiple of 8 whose 8 bytes lie in memory.
 fn symbol_window(ram: &GuestRam, at: u64) -> Result<u64, ElfFault>
@@ -89,7 +86,7 @@ pub(crate) fn load_program<F: Files>(
     ensures calm { F.quiet files.old → IsHeld (F.held files.old) config.now.program →
         GoesQuietly (F.quiet files.new) result }
 {
-    match read_file(alloc, files, config.program.as_str(), LONGEST_ELF)? {
+    match read_file(alloc, files, config.program.as_str(), LONGEST_FILE)? {
         Contents::Bytes(file) => program_start(alloc, config, &file),
         Contents::TooLong(len) => Err(StartFault::Elf(ElfFault::TooLong(len))),
     }

@@ -1,4 +1,4 @@
-// Reading a file whole.
+//! Reading a file whole.
 
 ghost use Rattle.std.specs.Prelude.{◌≡◌, ◌≤◌, IfOk, IfSome, IsErrOf, length, take};
 ghost use Rattle.outside_io.specs.Causes.{HasCause, StaysQuiet};

@@ -1,4 +1,4 @@
-// Where a machine begins.
+//! Where a machine begins.
 
 use guest_ram::GuestRam;
 use sim_config::Shape;

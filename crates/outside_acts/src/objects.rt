@@ -1,4 +1,4 @@
-// The three objects of a call.
+//! The three objects of a call.
 
 ghost use Rattle.std.specs.Prelude.{◌≡◌};
 ghost use Rattle.outside_acts.specs.Calls.{stop_by};

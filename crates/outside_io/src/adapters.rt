@@ -1,4 +1,5 @@
-// The outside of the program over the standard library: streams, and the files of the system.
+//! The outside of the program over the standard library: streams, and the files of the system.
+
 ghost use Rattle.std.specs.Prelude.{◌≡◌, ◌≤◌, ◌↔◌, ℕ, List, length, take, Option, Some, None, IfOk, IfSome, OnOk, OnErr, IsErrOf, IsTrue, IsNone, IsSomeAnd, string_bytes};
 ghost use Rattle.std.specs.Option.{option_map};
 ghost use Rattle.std.specs.Io.{ReadsAtMost};

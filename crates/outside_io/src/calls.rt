@@ -1,4 +1,5 @@
-// The calls of an object in memory: their numbers, and which of them are to fail.
+//! The calls of an object in memory: their numbers, and which of them are to fail.
+
 ghost use Rattle.std.specs.Prelude.{◌≡◌, ◌≤◌, ◌↔◌, [], ◌∷◌, ◌++◌, Contains, IsTrue, OnOk, OnErr, IsErrOf};
 ghost use Rattle.outside_io.specs.declared.OutFault.TheVariants.{Failed, NoMemory};
 ghost use Rattle.outside_io.specs.Causes.{raised, CountsFailed};

@@ -1,4 +1,5 @@
-// A source, a sink and files in memory, which fail at the calls that are listed.
+//! A source, a sink and files in memory, which fail at the calls that are listed.
+
 ghost use Rattle.std.specs.Prelude.{◌≡◌, ◌≢◌, ◌≤◌, ◌↔◌, ◌⊎◌, ℕ, List, [], ◌∷◌, ◌++◌, min, length, take, drop, vec_len, Contains, Option, None, Some, IfOk, IfSome, IsSome, IsNone, OnOk, OnErr, IsErrOf};
 ghost use Rattle.std.specs.Option.{option_copied};
 ghost use Rattle.std.specs.Io.{ReadsAtMost};

@@ -1,4 +1,5 @@
-// Reads and writes of the standard library, again where a signal interrupts them, and to the end.
+//! Reads and writes of the standard library, again where a signal interrupts them, and to the end.
+
 ghost use Rattle.std.specs.Prelude.{◌≡◌, ◌≤◌, ◌<◌, ℕ, length, take, IfOk, OnOk, OnErr};
 ghost use Rattle.std.specs.Io.{ReadsAtMost, WritesAtMost};
 ghost use Rattle.std.specs.Io.KnownBytes.{ReadConsumes, WriteAppends, Consumes, Appends, IsAtEnd};

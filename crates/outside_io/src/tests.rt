@@ -1,4 +1,5 @@
-// Each object outside, called through its trait.
+//! Each object outside, called through its trait.
+
 use crate::{
     DirFiles, Files, MemFiles, MemSink, MemSource, OutFault, Sink, Source, StdSink, StdSource,
 };

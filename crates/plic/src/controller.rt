@@ -62,6 +62,13 @@ impl Plic {
         }
     }
 
+    /// The registers are well formed.
+    pub fn see_fit(&self)
+        ensures { IsFit self.now }
+    {
+        let _served = self.served;
+    }
+
     /// The value of the register of `size` bytes at offset `off`. Reading the register of claims is a
     /// claim.
     ///
@@ -146,8 +153,7 @@ impl Plic {
     /// The priority of source `s`, which is 1 or 2.
     pub fn priority(&self, s: u8) -> u32
         requires { (s ≡ 1) ⊎ (s ≡ 2) }
-        ensures value { result ≡ priority_of self.now s }
-        ensures fit { IsFit self.now }
+        ensures { result ≡ priority_of self.now s }
     {
         u32::from(self.priority[usize::from(s - 1)])
     }
@@ -155,8 +161,7 @@ impl Plic {
     /// The sources that context `c` enables, as bits 1 and 2.
     pub fn enabled(&self, c: u8) -> u32
         requires { c < context_count self.now }
-        ensures value { result ≡ slice_index self.now.enable c }
-        ensures fit { IsFit self.now }
+        ensures { result ≡ slice_index self.now.enable c }
     {
         u32::from(self.enable[usize::from(c)])
     }
@@ -164,16 +169,14 @@ impl Plic {
     /// The threshold of context `c`.
     pub fn threshold(&self, c: u8) -> u32
         requires { c < context_count self.now }
-        ensures value { result ≡ slice_index self.now.threshold c }
-        ensures fit { IsFit self.now }
+        ensures { result ≡ slice_index self.now.threshold c }
     {
         u32::from(self.threshold[usize::from(c)])
     }
 
     /// The sources that are served, as bits 1 and 2.
     pub fn served(&self) -> u8
-        ensures value { result ≡ self.now.served }
-        ensures fit { IsFit self.now }
+        ensures { result ≡ self.now.served }
     {
         self.served
     }

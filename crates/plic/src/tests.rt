@@ -1,3 +1,5 @@
+//! Registers by tables, claims and completions.
+
 ghost use Rattle.std.specs.Prelude.{◌≡◌, IfOk};
 ghost use Rattle.plic.specs.State.{context_count};
 

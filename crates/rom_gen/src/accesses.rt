@@ -1,5 +1,5 @@
-// The single accesses of the block of the devices. The address that is reached stands in no word, so the
-// clauses here have 0 in its place.
+//! The single accesses of the block of the devices. The address that is reached stands in no word, so the
+//! clauses here have 0 in its place.
 
 ghost use Rattle.std.specs.Prelude.{◌≡◌, ◌+◌, ◌^◌, ◌<◌, ◌≤◌, ◌∷◌, [], OnOk, pos};
 ghost use Rattle.rv_decode.specs.Ranges.{IsSigned};

@@ -1,4 +1,4 @@
-// The block that puts the devices back.
+//! The block that puts the devices back.
 
 ghost use Rattle.std.specs.Prelude.{◌≡◌, ◌+◌, ◌*◌, ◌<◌, ◌≤◌, [], IfOk, OnOk, slice_index};
 ghost use Rattle.clint.specs.State.{hart_count};
@@ -38,7 +38,7 @@ pub fn device_stub(
     ensures bytes { IfOk result (λ v. v.items ≡ device_bytes board.now next) }
     ensures executed { IfOk result (λ v. RestoresDevices board.now at next v.items) }
 {
-    let _time = board.time();
+    board.see_fit();
     device_block(alloc, board, harts, next)
 }
 
@@ -52,7 +52,7 @@ pub(crate) fn device_block(
     requires { harts ≡ board_harts board.now }
     ensures { IfOk result (λ v. v.items ≡ device_bytes board.now next) }
 {
-    let _time = board.time();
+    board.see_fit();
     let mut draft = Writer::new(alloc, 0);
     draft.devices(board, harts)?;
     draft.far(next)?;
@@ -71,6 +71,7 @@ impl Writer {
         ensures code { OnOk result (Dealt self.old self.new (context_deeds count 0 plic.now.enable plic.now.threshold [])) }
         ensures room { OnOk result (offset_of self.new ≤ offset_of self.old + 16 * count) }
     {
+        plic.see_fit();
         for c in 0..count {
             let place = u32::from(c);
             self.save_up(Width::Word, u64::from(plic.enabled(c)), 4, 128 * place)?;
@@ -86,6 +87,7 @@ impl Writer {
         ensures code { OnOk result (Dealt self.old self.new (queue_deeds console.now.queue [])) }
         ensures room { OnOk result (offset_of self.new ≤ offset_of self.old + 128) }
     {
+        console.see_fit();
         for i in 0..console.waiting() {
             self.save_up(Width::Byte, u64::from(console.byte(i)), 2, 0)?;
         }
@@ -148,6 +150,7 @@ impl Writer {
         requires room { offset_of self.old + 584 ≤ 2048 }
         ensures { OnOk result (Dealt self.old self.new (device_deeds board.now)) }
     {
+        board.see_fit();
         let time = board.time();
         let console = board.console();
         let plic = board.plic();
@@ -174,7 +177,7 @@ fn soft_bit(clint: &Clint, h: u8) -> u64
     requires { h < hart_count clint.now }
     ensures { result ≡ slice_index clint.now.msip h }
 {
-    let _time = clint.time();
+    clint.see_fit();
     if clint.soft_due(h) { 1 } else { 0 }
 }
 
@@ -184,7 +187,7 @@ fn compare(clint: &Clint, h: u8) -> u64
     requires { h < hart_count clint.now }
     ensures { result ≡ slice_index clint.now.mtimecmp h }
 {
-    let _time = clint.time();
+    clint.see_fit();
     match clint.load(0x4000 + 8 * u64::from(h), 8) {
         Ok(v) => v,
         Err(_) => 0,

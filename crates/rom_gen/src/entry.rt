@@ -1,4 +1,4 @@
-// The code with which each hart begins.
+//! The code with which each hart begins.
 
 ghost use Rattle.std.specs.Prelude.{◌≡◌, ◌<◌, ◌≤◌, ◌++◌, IfOk, OnOk, length};
 ghost use Rattle.rom_gen.specs.Executed.{Dispatches};

@@ -1,4 +1,4 @@
-// The block that puts a hart back.
+//! The block that puts a hart back.
 
 ghost use Rattle.std.specs.Prelude.{◌≡◌, ◌+◌, ◌*◌, ◌<◌, ◌≤◌, All, IfOk, IsFalse, IsTrue, None, OnOk, length, map};
 ghost use Rattle.rv_alu.specs.Modes.{level};

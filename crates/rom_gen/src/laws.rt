@@ -1,4 +1,4 @@
-// Laws of the definitions, each as the contract of a call that does nothing.
+//! Laws of the definitions, each as the contract of a call that does nothing.
 
 ghost use Rattle.rom_gen.specs.Laws.{DevicesRestored, ItemSteps, ItemsJoin, RegistersRestored, RomsRestore};
 

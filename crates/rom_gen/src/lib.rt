@@ -11,16 +11,6 @@ mod laws;
 mod rom;
 #[cfg(test)]
 mod tests;
-#[cfg(test)]
-mod tests_first;
-#[cfg(test)]
-mod tests_laid;
-#[cfg(test)]
-mod tests_numbers;
-#[cfg(test)]
-mod tests_support;
-#[cfg(test)]
-mod tests_words;
 mod words;
 mod writer;
 

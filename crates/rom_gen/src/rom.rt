@@ -1,4 +1,4 @@
-// The whole boot ROM.
+//! The whole boot ROM.
 
 ghost use Rattle.std.specs.Prelude.{◌≡◌, ◌+◌, ◌*◌, ◌<◌, ◌≤◌, ◌==◌, IfOk, IsTrue, if◌then◌else◌, length};
 ghost use Rattle.board_bus.specs.Board.{hart_count};
@@ -108,7 +108,7 @@ fn device_length(alloc: Global, board: &Board, harts: u8) -> Result<u32, NoMemor
     ensures size { IfOk result (λ n. n ≡ device_size board.now) }
     ensures small { IfOk result (λ n. n ≤ 1616) }
 {
-    let _time = board.time();
+    board.see_fit();
     let draft = device_block(alloc, board, harts, 0)?;
     Ok(draft.len() as u32)
 }

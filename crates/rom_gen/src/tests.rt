@@ -4,9 +4,15 @@
 ghost use Rattle.std.specs.Prelude.{◌<◌, IfSome};
 ghost use Rattle.rom_gen.specs.Executed.{IsPlace};
 
-use crate::tests_first::{FIRST_EIGHT, FIRST_ONE};
-use crate::tests_support::{booted, go, holds, machine_of, same, same_events, same_machine};
-use crate::tests_words::{AFTER_PROGRAM, AT_RESET, DISPATCH, FILLS, PROGRAM, RESERVES};
+mod first;
+mod laid;
+mod numbers;
+mod support;
+mod words;
+
+use crate::tests::first::{FIRST_EIGHT, FIRST_ONE};
+use crate::tests::support::{booted, go, holds, machine_of, same, same_events, same_machine};
+use crate::tests::words::{AFTER_PROGRAM, AT_RESET, DISPATCH, FILLS, PROGRAM, RESERVES};
 use crate::{NoMemory, Rom, device_stub, dispatch, hart_stub, rom_of};
 use byteorder::{ByteOrder, LittleEndian};
 use guest_ram::BASE;

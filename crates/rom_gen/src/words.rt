@@ -1,4 +1,4 @@
-// The words of the instructions of a boot ROM. Each is a sum of its fields.
+//! The words of the instructions of a boot ROM. Each is a sum of its fields.
 
 ghost use Rattle.std.specs.Prelude.{◌≡◌, ◌^◌, ◌<◌, ◌≤◌, pos};
 ghost use Rattle.rv_alu.specs.Arithmetic.{modulo};

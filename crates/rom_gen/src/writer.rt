@@ -1,4 +1,4 @@
-// A writer of a block: its code, and the values of its pool.
+//! A writer of a block: its code, and the values of its pool.
 
 ghost use Rattle.std.specs.Prelude.{◌≡◌, ◌+◌, ◌*◌, ◌/◌, ◌<◌, ◌≤◌, ◌++◌, [], IfOk, OnOk, length};
 ghost use Rattle.byteorder.specs.Endian.{little_bytes};

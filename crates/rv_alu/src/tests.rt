@@ -1,5 +1,6 @@
 //! Rows of the manual and values at the edges of 32 and 64 bits, reckoned by hand and by a script with
 //! unbounded integers.
+
 use super::*;
 
 // An operation, its operands, and its value.

@@ -23,11 +23,8 @@ fn addi4spn(c: u32) -> Option<Insn>
     if c & 0x1fe0 == 0 {
         None
     } else {
-        Some(Insn::Addi {
-            rd: near_rd(c),
-            rs1: 2,
-            imm: addi4spn_immediate(c),
-        })
+        let (rd, imm) = (near_rd(c), addi4spn_immediate(c));
+        Some(Insn::Addi { rd, rs1: 2, imm })
     }
 }
 
@@ -38,11 +35,8 @@ fn lw(c: u32) -> Option<Insn>
     ensures form { result ≡ decoded_by (forms_at 0x4000) c }
     ensures in_range { IfSome result IsInRange }
 {
-    Some(Insn::Lw {
-        rd: near_rd(c),
-        rs1: near_rs1(c),
-        imm: load_word_immediate(c),
-    })
+    let (rd, rs1, imm) = (near_rd(c), near_rs1(c), load_word_immediate(c));
+    Some(Insn::Lw { rd, rs1, imm })
 }
 
 /// `c.ld`.
@@ -52,11 +46,8 @@ fn ld(c: u32) -> Option<Insn>
     ensures form { result ≡ decoded_by (forms_at 0x6000) c }
     ensures in_range { IfSome result IsInRange }
 {
-    Some(Insn::Ld {
-        rd: near_rd(c),
-        rs1: near_rs1(c),
-        imm: load_double_immediate(c),
-    })
+    let (rd, rs1, imm) = (near_rd(c), near_rs1(c), load_double_immediate(c));
+    Some(Insn::Ld { rd, rs1, imm })
 }
 
 /// `c.sw`.
@@ -66,11 +57,8 @@ fn sw(c: u32) -> Option<Insn>
     ensures form { result ≡ decoded_by (forms_at 0xc000) c }
     ensures in_range { IfSome result IsInRange }
 {
-    Some(Insn::Sw {
-        rs1: near_rs1(c),
-        rs2: near_rs2(c),
-        imm: load_word_immediate(c),
-    })
+    let (rs1, rs2, imm) = (near_rs1(c), near_rs2(c), load_word_immediate(c));
+    Some(Insn::Sw { rs1, rs2, imm })
 }
 
 /// `c.sd`.
@@ -80,11 +68,8 @@ fn sd(c: u32) -> Option<Insn>
     ensures form { result ≡ decoded_by (forms_at 0xe000) c }
     ensures in_range { IfSome result IsInRange }
 {
-    Some(Insn::Sd {
-        rs1: near_rs1(c),
-        rs2: near_rs2(c),
-        imm: load_double_immediate(c),
-    })
+    let (rs1, rs2, imm) = (near_rs1(c), near_rs2(c), load_double_immediate(c));
+    Some(Insn::Sd { rs1, rs2, imm })
 }
 
 /// `c.addi`.
@@ -94,11 +79,8 @@ fn addi(c: u32) -> Option<Insn>
     ensures form { result ≡ decoded_by (forms_at 0x1) c }
     ensures in_range { IfSome result IsInRange }
 {
-    Some(Insn::Addi {
-        rd: far_rd(c),
-        rs1: far_rd(c),
-        imm: short_immediate(c),
-    })
+    let (rd, imm) = (far_rd(c), short_immediate(c));
+    Some(Insn::Addi { rd, rs1: rd, imm })
 }
 
 /// `c.addiw`.
@@ -111,11 +93,8 @@ fn addiw(c: u32) -> Option<Insn>
     if c & 0xf80 == 0 {
         None
     } else {
-        Some(Insn::Addiw {
-            rd: far_rd(c),
-            rs1: far_rd(c),
-            imm: short_immediate(c),
-        })
+        let (rd, imm) = (far_rd(c), short_immediate(c));
+        Some(Insn::Addiw { rd, rs1: rd, imm })
     }
 }
 
@@ -126,11 +105,8 @@ fn li(c: u32) -> Option<Insn>
     ensures form { result ≡ decoded_by (forms_at 0x4001) c }
     ensures in_range { IfSome result IsInRange }
 {
-    Some(Insn::Addi {
-        rd: far_rd(c),
-        rs1: 0,
-        imm: short_immediate(c),
-    })
+    let (rd, imm) = (far_rd(c), short_immediate(c));
+    Some(Insn::Addi { rd, rs1: 0, imm })
 }
 
 /// `c.addi16sp`, or `c.lui` with another register than x2.
@@ -143,16 +119,11 @@ fn addi16sp_or_lui(c: u32) -> Option<Insn>
     if c & 0x107c == 0 {
         None
     } else if c & 0xef83 == 0x6101 {
-        Some(Insn::Addi {
-            rd: 2,
-            rs1: 2,
-            imm: addi16sp_immediate(c),
-        })
+        let imm = addi16sp_immediate(c);
+        Some(Insn::Addi { rd: 2, rs1: 2, imm })
     } else {
-        Some(Insn::Lui {
-            rd: far_rd(c),
-            imm: upper_immediate(c),
-        })
+        let (rd, imm) = (far_rd(c), upper_immediate(c));
+        Some(Insn::Lui { rd, imm })
     }
 }
 
@@ -163,53 +134,19 @@ fn arithmetic(c: u32) -> Option<Insn>
     ensures form { result ≡ decoded_by (forms_at 0x8001) c }
     ensures in_range { IfSome result IsInRange }
 {
+    let (rd, rs2) = (near_rs1(c), near_rs2(c));
+    let (shamt, imm) = (shift_amount(c), short_immediate(c));
     match c & 0xec03 {
-        0x8001 => Some(Insn::Srli {
-            rd: near_rs1(c),
-            rs1: near_rs1(c),
-            shamt: shift_amount(c),
-        }),
-        0x8401 => Some(Insn::Srai {
-            rd: near_rs1(c),
-            rs1: near_rs1(c),
-            shamt: shift_amount(c),
-        }),
-        0x8801 => Some(Insn::Andi {
-            rd: near_rs1(c),
-            rs1: near_rs1(c),
-            imm: short_immediate(c),
-        }),
+        0x8001 => Some(Insn::Srli { rd, rs1: rd, shamt }),
+        0x8401 => Some(Insn::Srai { rd, rs1: rd, shamt }),
+        0x8801 => Some(Insn::Andi { rd, rs1: rd, imm }),
         _ => match c & 0xfc63 {
-            0x8c01 => Some(Insn::Sub {
-                rd: near_rs1(c),
-                rs1: near_rs1(c),
-                rs2: near_rs2(c),
-            }),
-            0x8c21 => Some(Insn::Xor {
-                rd: near_rs1(c),
-                rs1: near_rs1(c),
-                rs2: near_rs2(c),
-            }),
-            0x8c41 => Some(Insn::Or {
-                rd: near_rs1(c),
-                rs1: near_rs1(c),
-                rs2: near_rs2(c),
-            }),
-            0x8c61 => Some(Insn::And {
-                rd: near_rs1(c),
-                rs1: near_rs1(c),
-                rs2: near_rs2(c),
-            }),
-            0x9c01 => Some(Insn::Subw {
-                rd: near_rs1(c),
-                rs1: near_rs1(c),
-                rs2: near_rs2(c),
-            }),
-            0x9c21 => Some(Insn::Addw {
-                rd: near_rs1(c),
-                rs1: near_rs1(c),
-                rs2: near_rs2(c),
-            }),
+            0x8c01 => Some(Insn::Sub { rd, rs1: rd, rs2 }),
+            0x8c21 => Some(Insn::Xor { rd, rs1: rd, rs2 }),
+            0x8c41 => Some(Insn::Or { rd, rs1: rd, rs2 }),
+            0x8c61 => Some(Insn::And { rd, rs1: rd, rs2 }),
+            0x9c01 => Some(Insn::Subw { rd, rs1: rd, rs2 }),
+            0x9c21 => Some(Insn::Addw { rd, rs1: rd, rs2 }),
             _ => None,
         },
     }
@@ -222,10 +159,8 @@ fn j(c: u32) -> Option<Insn>
     ensures form { result ≡ decoded_by (forms_at 0xa001) c }
     ensures in_range { IfSome result IsInRange }
 {
-    Some(Insn::Jal {
-        rd: 0,
-        imm: jump_immediate(c),
-    })
+    let imm = jump_immediate(c);
+    Some(Insn::Jal { rd: 0, imm })
 }
 
 /// `c.beqz`.
@@ -235,11 +170,8 @@ fn beqz(c: u32) -> Option<Insn>
     ensures form { result ≡ decoded_by (forms_at 0xc001) c }
     ensures in_range { IfSome result IsInRange }
 {
-    Some(Insn::Beq {
-        rs1: near_rs1(c),
-        rs2: 0,
-        imm: branch_immediate(c),
-    })
+    let (rs1, imm) = (near_rs1(c), branch_immediate(c));
+    Some(Insn::Beq { rs1, rs2: 0, imm })
 }
 
 /// `c.bnez`.
@@ -249,11 +181,8 @@ fn bnez(c: u32) -> Option<Insn>
     ensures form { result ≡ decoded_by (forms_at 0xe001) c }
     ensures in_range { IfSome result IsInRange }
 {
-    Some(Insn::Bne {
-        rs1: near_rs1(c),
-        rs2: 0,
-        imm: branch_immediate(c),
-    })
+    let (rs1, imm) = (near_rs1(c), branch_immediate(c));
+    Some(Insn::Bne { rs1, rs2: 0, imm })
 }
 
 /// `c.slli`.
@@ -263,11 +192,8 @@ fn slli(c: u32) -> Option<Insn>
     ensures form { result ≡ decoded_by (forms_at 0x2) c }
     ensures in_range { IfSome result IsInRange }
 {
-    Some(Insn::Slli {
-        rd: far_rd(c),
-        rs1: far_rd(c),
-        shamt: shift_amount(c),
-    })
+    let (rd, shamt) = (far_rd(c), shift_amount(c));
+    Some(Insn::Slli { rd, rs1: rd, shamt })
 }
 
 /// `c.lwsp`.
@@ -280,11 +206,8 @@ fn lwsp(c: u32) -> Option<Insn>
     if c & 0xf80 == 0 {
         None
     } else {
-        Some(Insn::Lw {
-            rd: far_rd(c),
-            rs1: 2,
-            imm: lwsp_immediate(c),
-        })
+        let (rd, imm) = (far_rd(c), lwsp_immediate(c));
+        Some(Insn::Lw { rd, rs1: 2, imm })
     }
 }
 
@@ -298,11 +221,8 @@ fn ldsp(c: u32) -> Option<Insn>
     if c & 0xf80 == 0 {
         None
     } else {
-        Some(Insn::Ld {
-            rd: far_rd(c),
-            rs1: 2,
-            imm: ldsp_immediate(c),
-        })
+        let (rd, imm) = (far_rd(c), ldsp_immediate(c));
+        Some(Insn::Ld { rd, rs1: 2, imm })
     }
 }
 
@@ -313,32 +233,18 @@ fn registers(c: u32) -> Option<Insn>
     ensures form { result ≡ decoded_by (forms_at 0x8002) c }
     ensures in_range { IfSome result IsInRange }
 {
+    let (rd, rs2) = (far_rd(c), far_rs2(c));
+    let rs1 = rd;
     if c & 0xf07f == 0x8002 && c & 0xf80 != 0 {
-        Some(Insn::Jalr {
-            rd: 0,
-            rs1: far_rd(c),
-            imm: 0,
-        })
+        Some(Insn::Jalr { rd: 0, rs1, imm: 0 })
     } else if c & 0xf003 == 0x8002 && c & 0x7c != 0 {
-        Some(Insn::Add {
-            rd: far_rd(c),
-            rs1: 0,
-            rs2: far_rs2(c),
-        })
+        Some(Insn::Add { rd, rs1: 0, rs2 })
     } else if c & 0xffff == 0x9002 {
         Some(Insn::Ebreak)
     } else if c & 0xf07f == 0x9002 && c & 0xf80 != 0 {
-        Some(Insn::Jalr {
-            rd: 1,
-            rs1: far_rd(c),
-            imm: 0,
-        })
+        Some(Insn::Jalr { rd: 1, rs1, imm: 0 })
     } else if c & 0xf003 == 0x9002 && c & 0x7c != 0 {
-        Some(Insn::Add {
-            rd: far_rd(c),
-            rs1: far_rd(c),
-            rs2: far_rs2(c),
-        })
+        Some(Insn::Add { rd, rs1, rs2 })
     } else {
         None
     }
@@ -351,11 +257,8 @@ fn swsp(c: u32) -> Option<Insn>
     ensures form { result ≡ decoded_by (forms_at 0xc002) c }
     ensures in_range { IfSome result IsInRange }
 {
-    Some(Insn::Sw {
-        rs1: 2,
-        rs2: far_rs2(c),
-        imm: swsp_immediate(c),
-    })
+    let (rs2, imm) = (far_rs2(c), swsp_immediate(c));
+    Some(Insn::Sw { rs1: 2, rs2, imm })
 }
 
 /// `c.sdsp`.
@@ -365,11 +268,8 @@ fn sdsp(c: u32) -> Option<Insn>
     ensures form { result ≡ decoded_by (forms_at 0xe002) c }
     ensures in_range { IfSome result IsInRange }
 {
-    Some(Insn::Sd {
-        rs1: 2,
-        rs2: far_rs2(c),
-        imm: sdsp_immediate(c),
-    })
+    let (rs2, imm) = (far_rs2(c), sdsp_immediate(c));
+    Some(Insn::Sd { rs1: 2, rs2, imm })
 }
 
 /// The instruction that a 16-bit word stands for, or `None` where no form of the table matches it: the

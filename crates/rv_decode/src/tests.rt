@@ -1,5 +1,6 @@
 //! Rows of the table with fields of every kind, words that miss a row by one fixed bit, and all
 //! halfwords. What is expected comes from `tools/instruction_rows.py`, which scans the manual's tables.
+
 use super::*;
 
 /// An instruction as its number in the table and its fields in their order, or `NONE`.

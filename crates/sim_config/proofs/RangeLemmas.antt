@@ -15,9 +15,10 @@ use Rattle.sim_config.specs.declared.fault.ConfigFault.{ConfigFault}
 use Rattle.sim_config.specs.declared.fault.ConfigFault.TheVariants.{TooLong}
 use Rattle.sim_config.specs.Keys.{key_order}
 use Rattle.rv_alu.specs.Bits.{is_between}
+use Rattle.guest_ram.specs.Bytes.{most_bytes}
 use Rattle.sim_config.specs.Faults.{value_at, number_of, number_at, number_in, is_pages, is_host_word, is_window, range_fault, rule_fault, key_fault, keys_fault, members_fault}
 use Rattle.sim_config.specs.Reading.{reading, object_fault, reading_fault, text_fault, members_of, text_members, config_values, meta_values}
-use Rattle.sim_config.specs.Ranges.{IsRamLength, IsInRam, IsWindow, IsConfig, IsMeta}
+use Rattle.sim_config.specs.Ranges.{IsRamLength, IsHostWord, IsWindow, IsConfig, IsMeta}
 
 -- ---- no fault of a text is none of each key
 
@@ -136,12 +137,15 @@ least_of least most n within = grind (arith, nat_tests)
 most_of : (least most n : ℕ) → is_between least most n ≡ true → n ≤ most
 most_of least most n within = grind (arith, nat_tests)
 
-ram_fact : (n : ℕ) → is_pages 65536 268435456 n ≡ true → IsRamLength n
+ram_fact : (n : ℕ) → is_pages 65536 most_bytes n ≡ true → IsRamLength n
 ram_fact n fits = record { least = grind (arith, nat_tests); most = grind (arith, nat_tests); pages = grind (arith, nat_tests) }
 
 -- a word of the host lies in RAM
-pub in_ram : (ram n : ℕ) → is_host_word ram n ≡ true → IsInRam ram n
-in_ram ram n fits = record { aligned = grind (arith, nat_tests); above = grind (arith, nat_tests); below = grind (arith, nat_tests) }
+pub in_ram : (ram n : ℕ) → is_host_word ram n ≡ true → IsHostWord ram n
+in_ram ram n fits = record {
+  aligned = grind (arith, nat_tests);
+  inside = record { low = grind (arith, nat_tests); high = grind (arith, nat_tests) };
+}
 
 is_zero : (n : ℕ) → (n == 0) ≡ true → n ≡ 0
 is_zero n e = grind (arith, nat_tests)
@@ -162,7 +166,7 @@ IsConfig-clean ms keys =
     record {
       harts_least = least_of 1 8 (number_in Harts ms) harts;
       harts_most = most_of 1 8 (number_in Harts ms) harts;
-      ram = ram_fact (number_in Ram ms) (required_pages Ram 65536 268435456 (number_in Ram ms) (value_at Ram ms) keys.ram);
+      ram = ram_fact (number_in Ram ms) (required_pages Ram 65536 most_bytes (number_in Ram ms) (value_at Ram ms) keys.ram);
       slice_least = least_of 1 1024 (number_in Slice ms) slice;
       slice_most = most_of 1 1024 (number_in Slice ms) slice;
       program = required_text Program (number_in Ram ms) (value_at Program ms) keys.program;
@@ -180,7 +184,7 @@ IsMeta-clean ms keys =
       shape = record {
         harts_least = least_of 1 8 (number_in Harts ms) harts;
         harts_most = most_of 1 8 (number_in Harts ms) harts;
-        ram = ram_fact (number_in Ram ms) (required_pages Ram 65536 268435456 (number_in Ram ms) (value_at Ram ms) keys.ram);
+        ram = ram_fact (number_in Ram ms) (required_pages Ram 65536 most_bytes (number_in Ram ms) (value_at Ram ms) keys.ram);
         slice_least = least_of 1 1024 (number_in Slice ms) slice;
         slice_most = most_of 1 1024 (number_in Slice ms) slice;
         tohost = window_fact (number_in Ram ms) (number_in Tohost ms) (required_window Tohost (number_in Ram ms) (value_at Tohost ms) keys.tohost);

@@ -14,7 +14,7 @@ use Rattle.sim_config.specs.declared.fault.ConfigFault.{ConfigFault}
 use Rattle.sim_config.specs.declared.fault.ConfigFault.TheVariants.{Unknown, TooLong}
 use Rattle.sim_config.specs.Faults.{number_at, number_in, text_in, first_unlisted, keys_fault, members_fault}
 use Rattle.sim_config.specs.Keys.{key_order}
-use Rattle.sim_config.specs.Reading.{most_bytes, reading, object_fault, reading_fault, text_fault, members_of, text_members, config_values, meta_values, unless_fault, config_of, meta_of}
+use Rattle.sim_config.specs.Reading.{longest_text, reading, object_fault, reading_fault, text_fault, members_of, text_members, config_values, meta_values, unless_fault, config_of, meta_of}
 
 -- bytes that are UTF-8 and have a reading
 pub reading-some : (text : List ℕ) (d : Data) → IsUtf8 text → read text ≡ Some d → reading text ≡ Some d
@@ -62,14 +62,14 @@ short_or : (long : Bool) (fault : Option ConfigFault) (rest : Option ConfigFault
 short_or long fault rest e = ap (λ b. cond b fault rest) e
 
 -- a text that is too long
-pub fault_of_length : (form : Form) (text : List ℕ) → most_bytes < length text → text_fault form text ≡ Some (TooLong (length text))
+pub fault_of_length : (form : Form) (text : List ℕ) → longest_text < length text → text_fault form text ≡ Some (TooLong (length text))
 unfolding text_fault
-fault_of_length form text above = let long : nat_lt most_bytes (length text) ≡ true = grind (arith, nat_tests) in long_or _ _ _ long
+fault_of_length form text above = let long : nat_lt longest_text (length text) ≡ true = grind (arith, nat_tests) in long_or _ _ _ long
 
 -- a text that is none
-pub fault_of_reading : (form : Form) (text : List ℕ) (o : Option Data) → length text ≤ most_bytes → reading text ≡ o → text_fault form text ≡ reading_fault form o
+pub fault_of_reading : (form : Form) (text : List ℕ) (o : Option Data) → length text ≤ longest_text → reading text ≡ o → text_fault form text ≡ reading_fault form o
 unfolding text_fault
-fault_of_reading form text o within reads = let short : nat_lt most_bytes (length text) ≡ false = grind (arith, nat_tests) in short_or _ _ _ short ∙ ap (reading_fault form) reads
+fault_of_reading form text o within reads = let short : nat_lt longest_text (length text) ≡ false = grind (arith, nat_tests) in short_or _ _ _ short ∙ ap (reading_fault form) reads
 
 -- the members of the value that a text is
 pub members_of_reading : (text : List ℕ) (d : Data) → reading text ≡ Some d → text_members text ≡ members_of d

@@ -15,9 +15,10 @@ use Rattle.sim_config.specs.declared.keys.Form.TheVariants.{MetaText}
 use Rattle.sim_config.specs.declared.fault.ConfigFault.{ConfigFault}
 use Rattle.sim_config.specs.declared.values.Meta.{Meta}
 use Rattle.rv_alu.specs.Bits.{is_between}
+use Rattle.guest_ram.specs.Bytes.{most_bytes}
 use Rattle.sim_config.specs.Faults.{is_pages, is_window, range_fault, keys_fault, members_fault}
 use Rattle.sim_config.specs.Ranges.{IsRamLength, IsWindow, IsMeta}
-use Rattle.sim_config.specs.Reading.{most_bytes, reading, meta_of}
+use Rattle.sim_config.specs.Reading.{longest_text, reading, meta_of}
 use Rattle.sim_config.specs.Written.{meta_members, meta_bytes}
 use Rattle.sim_config.proofs.ReadLemmas.{reading-some, fault_of_reading, members_of_reading, meta_ok}
 
@@ -32,11 +33,11 @@ compact_of_meta meta = simp append_assoc
 short : (n : ℕ) → n < 10 ^ 13 → length (decimal n) ≤ 13
 short n small = length-decimal-le 13 n (lit< tt) small (omega arith)
 
-short_window : (ram n : ℕ) → ram ≤ 268435456 → IsWindow ram n → length (decimal n) ≤ 13
+short_window : (ram n : ℕ) → ram ≤ most_bytes → IsWindow ram n → length (decimal n) ≤ 13
 short_window ram n small (inl zero) = short n (omega arith)
-short_window ram n small (inr inside) = short n (omega (arith, inside.below))
+short_window ram n small (inr inside) = short n (omega (arith, inside.inside.high))
 
-length_of_meta : (meta : Meta) → IsMeta meta → length (meta_bytes meta) ≤ most_bytes
+length_of_meta : (meta : Meta) → IsMeta meta → length (meta_bytes meta) ≤ longest_text
 unfolding meta_bytes
 length_of_meta meta fits =
     let shape = fits.shape in
@@ -59,12 +60,12 @@ in_range key test passes = ap (λ b. range_fault key (Some b)) passes
 
 window_passes : (ram n : ℕ) → IsWindow ram n → is_window ram n ≡ true
 window_passes ram n (inl zero) = grind (arith, nat_tests)
-window_passes ram n (inr inside) = grind (arith, nat_tests, inside.aligned, inside.above, inside.below)
+window_passes ram n (inr inside) = grind (arith, nat_tests, inside.aligned, inside.inside.low, inside.inside.high)
 
 within : (least most n : ℕ) → least ≤ n → n ≤ most → is_between least most n ≡ true
 within least most n above below = grind (arith, nat_tests)
 
-pages : (n : ℕ) → IsRamLength n → is_pages 65536 268435456 n ≡ true
+pages : (n : ℕ) → IsRamLength n → is_pages 65536 most_bytes n ≡ true
 pages n fits = grind (arith, nat_tests, fits.least, fits.most, fits.pages)
 
 no_fault : (meta : Meta) → IsMeta meta → members_fault MetaText (meta_members meta) ≡ None
@@ -83,7 +84,7 @@ no_fault meta fits =
 
 -- ---- reading back
 
-back : (meta : Meta) (text : List ℕ) → IsMeta meta → length text ≤ most_bytes → reading text ≡ Some (object (meta_members meta)) → meta_of text ≡ Ok meta
+back : (meta : Meta) (text : List ℕ) → IsMeta meta → length text ≤ longest_text → reading text ≡ Some (object (meta_members meta)) → meta_of text ≡ Ok meta
 back meta text fits within reads =
     meta_ok text (meta_members meta) (fault_of_reading MetaText text _ within reads ∙ no_fault meta fits) (members_of_reading text _ reads)
 
@@ -98,6 +99,6 @@ pub back_of_written : (r : Result (Vec ℕ Global) AllocError) (d : Data) (meta 
     → IfOk r (λ text. IsMeta meta → meta_of text.items ≡ Ok meta)
 back_of_written (Ok text) d meta is bytes utf8 reads = λ fits.
     let shallow : depth d ≤ max_depth = subst (λ (e : Data). depth e ≤ max_depth) (sym is) (lit≤ tt) in
-    let within : length text.items ≤ most_bytes = subst (λ (bs : List ℕ). length bs ≤ most_bytes) (sym bytes) (length_of_meta meta fits) in
+    let within : length text.items ≤ longest_text = subst (λ (bs : List ℕ). length bs ≤ longest_text) (sym bytes) (length_of_meta meta fits) in
     back meta text.items fits within (reading-some text.items _ utf8 (reads shallow ∙ ap Some is))
 back_of_written (Err refused) d meta is bytes utf8 reads = bytes

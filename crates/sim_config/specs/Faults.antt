@@ -1,5 +1,5 @@
 -- The first fault of an object's members: first the keys that are not listed, and then key by key.
-use Rattle.std.specs.Prelude.{◌≡◌, ◌≢◌, IsSome, ℕ, ◌+◌, ◌%◌, List, [], ◌∷◌, length, not, Bool, true, false, ◌&&◌, ◌||◌, ◌==◌, nat_le, if◌then◌else◌, Option, Some, None, option_map, option_and_then, unwrap_or}
+use Rattle.std.specs.Prelude.{◌≡◌, ◌≢◌, IsSome, ℕ, ◌%◌, List, [], ◌∷◌, length, not, Bool, true, false, ◌&&◌, ◌||◌, ◌==◌, if◌then◌else◌, Option, Some, None, option_map, option_and_then, unwrap_or}
 use Rattle.std.specs.List.{list_any}
 use Rattle.std.specs.Option.{option_or}
 use Rattle.std.specs.Str.{bytes_eq}
@@ -7,7 +7,7 @@ use Rattle.std.specs.Ordering.{nat_cmp}
 use Rattle.std.specs.Cmp.Lexicographic.{slice_cmp}
 use Rattle.std.specs.declared.cmp.Ordering.TheVariants.{Less}
 use Rattle.rv_alu.specs.Bits.{is_between}
-use Rattle.guest_ram.specs.Bytes.{base}
+use Rattle.guest_ram.specs.Bytes.{is_in_ram}
 use Rattle.serde_json.specs.Data.{Data, Members, no_members, member}
 use Rattle.serde_json.specs.Find.{get_member, as_number, as_str, as_u64}
 use Rattle.sim_config.specs.declared.keys.Key.{Key}
@@ -51,7 +51,7 @@ is_pages least most n = is_between least most n && (n % 4096 == 0)
 
 -- a multiple of 8 whose 8 bytes lie in RAM of so many bytes
 abbrev pub is_host_word : ℕ → ℕ → Bool
-is_host_word ram n = (n % 8 == 0) && nat_le base n && nat_le (n + 8) (base + ram)
+is_host_word ram n = (n % 8 == 0) && is_in_ram ram n 8
 
 -- 0, or such a word
 abbrev pub is_window : ℕ → ℕ → Bool

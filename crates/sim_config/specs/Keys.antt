@@ -1,5 +1,6 @@
 -- The table of keys: what may stand at each key of the configuration and of the meta text.
 use Rattle.std.specs.Prelude.{ℕ, List, [], ◌∷◌, codes}
+use Rattle.guest_ram.specs.Bytes.{most_bytes}
 use Rattle.sim_config.specs.declared.keys.Key.{Key}
 use Rattle.sim_config.specs.declared.keys.Key.TheVariants.{Top, Harts, Ram, Rom, Slice, Program, Taken, Tohost, Version}
 use Rattle.sim_config.specs.declared.keys.Form.{Form}
@@ -17,7 +18,7 @@ pub record Row : Type 0 where
 
 -- RAM has 64 KiB to 256 MiB, in whole pages of 4 KiB
 abbrev pub ram_kind : Kind
-ram_kind = Pages 65536 268435456
+ram_kind = Pages 65536 most_bytes
 
 -- a hart makes 1 to 1,024 steps in a turn
 abbrev pub slice_kind : Kind

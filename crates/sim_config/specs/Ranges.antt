@@ -1,6 +1,6 @@
 -- The ranges of the values, as facts.
-use Rattle.std.specs.Prelude.{◌≡◌, ◌≢◌, ℕ, ◌+◌, ◌%◌, ◌≤◌, ◌⊎◌, [], IfSome}
-use Rattle.guest_ram.specs.Bytes.{base}
+use Rattle.std.specs.Prelude.{◌≡◌, ◌≢◌, ℕ, ◌%◌, ◌≤◌, ◌⊎◌, [], IfSome}
+use Rattle.guest_ram.specs.Bytes.{IsInRam, most_bytes}
 use Rattle.sim_config.specs.declared.values.Shape.{Shape}
 use Rattle.sim_config.specs.declared.values.Config.{Config}
 use Rattle.sim_config.specs.declared.values.Meta.{Meta}
@@ -8,18 +8,17 @@ use Rattle.sim_config.specs.declared.values.Meta.{Meta}
 -- 64 KiB to 256 MiB in whole pages of 4 KiB
 pub record IsRamLength (ram : ℕ) : Type 0 where
   pub least : 65536 ≤ ram
-  pub most : ram ≤ 268435456
+  pub most : ram ≤ most_bytes
   pub pages : ram % 4096 ≡ 0
 
 -- a multiple of 8 whose 8 bytes lie in RAM of so many bytes
-pub record IsInRam (ram at : ℕ) : Type 0 where
+pub record IsHostWord (ram at : ℕ) : Type 0 where
   pub aligned : at % 8 ≡ 0
-  pub above : base ≤ at
-  pub below : at + 8 ≤ base + ram
+  pub inside : IsInRam ram at 8
 
 -- no host window, or one in RAM
 abbrev pub IsWindow : ℕ → ℕ → Type 0
-IsWindow ram at = (at ≡ 0) ⊎ IsInRam ram at
+IsWindow ram at = (at ≡ 0) ⊎ IsHostWord ram at
 
 -- the ranges of a configuration's values
 pub record IsConfig (config : Config) : Type 0 where

@@ -16,8 +16,8 @@ use Rattle.sim_config.specs.declared.values.Meta.{Meta}
 use Rattle.sim_config.specs.Faults.{number_at, number_in, text_in, members_fault}
 
 -- a text has at most so many bytes
-abbrev pub most_bytes : ℕ
-most_bytes = 65536
+abbrev pub longest_text : ℕ
+longest_text = 65536
 
 -- the JSON value (RFC 8259) that the bytes are, where they are UTF-8 and nest at most 127 deep
 unfoldable pub reading : List ℕ → Option Data
@@ -35,7 +35,7 @@ reading_fault form (Some d) = object_fault form (as_object d)
 
 -- the first fault of a text
 unfoldable pub text_fault : Form → List ℕ → Option ConfigFault
-text_fault form text = if nat_lt most_bytes (length text) then Some (TooLong (length text)) else reading_fault form (reading text)
+text_fault form text = if nat_lt longest_text (length text) then Some (TooLong (length text)) else reading_fault form (reading text)
 
 -- ---- the values
 

@@ -1,4 +1,4 @@
-// Why a text is refused.
+//! Why a text is refused.
 
 use crate::keys::Key;
 use crate::name::Name;

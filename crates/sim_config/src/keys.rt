@@ -1,8 +1,10 @@
-// The keys of the two texts, and the table of what may stand at each.
+//! The keys of the two texts, and the table of what may stand at each.
 
 ghost use Rattle.std.specs.Prelude.{◌≡◌};
 ghost use Rattle.sim_config.specs.Keys.{name_of, rule_of};
 ghost use Rattle.sim_config.specs.Faults as faults;
+
+use guest_ram::MOST_BYTES;
 
 /// A key of a text, or the text's value as a whole.
 #[derive(Clone, Copy, Debug, PartialEq, Eq)]
@@ -73,7 +75,7 @@ pub(crate) const ORDER: [Key; 8] = [
 ];
 
 /// RAM has 64 KiB to 256 MiB, in whole pages of 4 KiB.
-const RAM: Rule = Rule::Required(Kind::Pages(65_536, 268_435_456));
+const RAM: Rule = Rule::Required(Kind::Pages(65_536, MOST_BYTES));
 
 /// A hart makes 1 to 1,024 steps in a turn.
 const SLICE: Rule = Rule::Required(Kind::Number(1, 1_024));

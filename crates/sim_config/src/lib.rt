@@ -19,6 +19,6 @@ mod write;
 pub use fault::ConfigFault;
 pub use keys::Key;
 pub use name::Name;
-pub use read::{read_config, read_meta};
+pub use read::{LONGEST_TEXT, read_config, read_meta};
 pub use values::{Config, Meta, Shape};
 pub use write::{NoMemory, meta_text};

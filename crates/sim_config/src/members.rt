@@ -1,4 +1,4 @@
-// What stands at the keys of an object, and the first fault of it.
+//! What stands at the keys of an object, and the first fault of it.
 
 ghost use Rattle.std.specs.Prelude.{◌≡◌, option_map, string_bytes, IfSome};
 ghost use Rattle.rv_alu.specs.Bits.{is_between};
@@ -9,7 +9,7 @@ ghost use Rattle.sim_config.specs.Reading.{members_of};
 
 use crate::fault::ConfigFault;
 use crate::keys::{Form, Key, Kind, ORDER, Rule, is_listed};
-use guest_ram::BASE;
+use guest_ram::is_in_ram;
 use serde_json::{Map, Value};
 
 /// What stands at the key.
@@ -61,7 +61,7 @@ fn is_pages(least: u64, most: u64, n: u64) -> bool
 fn is_window(ram: u64, n: u64) -> bool
     ensures { result ≡ faults.is_window ram n }
 {
-    n == 0 || (n % 8 == 0 && BASE <= n && n - BASE + 8 <= ram)
+    n == 0 || (n % 8 == 0 && is_in_ram(ram, n, 8))
 }
 
 /// The fault of a value that has the wrong kind, is in its range, or is not.

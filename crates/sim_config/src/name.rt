@@ -1,4 +1,4 @@
-// A text that owns its bytes.
+//! A text that owns its bytes.
 
 ghost use Rattle.std.specs.Prelude.{◌≡◌, IfOk};
 

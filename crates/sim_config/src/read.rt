@@ -1,4 +1,4 @@
-// Reading the two texts.
+//! Reading the two texts.
 
 ghost use Rattle.std.specs.Prelude.{◌≡◌, ◌≢◌, ◌<◌, ℕ, List, Some, None, IfOk, IfErr, OnOk, IsErrOf, length};
 ghost use Rattle.serde_json.specs.Find.{as_object};
@@ -6,7 +6,7 @@ ghost use Rattle.serde_json.specs.View.{view};
 ghost use Rattle.sim_config.specs.declared.fault.ConfigFault.TheVariants.{NoMemory};
 ghost use Rattle.sim_config.specs.Faults.{IsLeastUnlisted};
 ghost use Rattle.sim_config.specs.Ranges.{IsConfig, IsMeta};
-ghost use Rattle.sim_config.specs.Reading.{config_of, meta_of, members_of, text_fault, text_members, reading, object_fault, most_bytes};
+ghost use Rattle.sim_config.specs.Reading.{config_of, meta_of, members_of, text_fault, text_members, reading, object_fault, longest_text};
 
 use crate::fault::ConfigFault;
 use crate::keys::{Form, Key};
@@ -17,7 +17,7 @@ use serde_json::Value;
 use std::alloc::Global;
 
 /// A text has at most so many bytes.
-const MOST_BYTES: usize = 65_536;
+pub const LONGEST_TEXT: u64 = 65_536;
 
 /// The value that the text is.
 fn parse(alloc: Global, text: &[u8]) -> Result<Value, ConfigFault>
@@ -55,9 +55,9 @@ fn read_checked(alloc: Global, form: Form, text: &[u8]) -> Result<Value, ConfigF
     ensures members { IfOk result (λ value. text_members text.now ≡ members_of (view value)) }
     ensures err { IfErr result (λ fault. fault ≢ NoMemory → text_fault form text.now ≡ Some fault) }
     ensures least { IfErr result (λ fault. (name : List ℕ) → fault ≡ ConfigFault.Unknown name → IsLeastUnlisted form (text_members text.now) name) }
-    ensures long { most_bytes < length text.now → IsErrOf result (ConfigFault.TooLong (length text.now)) }
+    ensures long { longest_text < length text.now → IsErrOf result (ConfigFault.TooLong (length text.now)) }
 {
-    if text.len() > MOST_BYTES {
+    if text.len() as u64 > LONGEST_TEXT {
         return Err(ConfigFault::TooLong(text.len() as u64));
     }
     let value = parse(alloc, text)?;
@@ -71,7 +71,7 @@ pub fn read_config(alloc: Global, text: &[u8]) -> Result<Config, ConfigFault>
     ensures err { IfErr result (λ fault. fault ≢ NoMemory → config_of text.now ≡ Err fault) }
     ensures least { IfErr result (λ fault. (name : List ℕ) → fault ≡ ConfigFault.Unknown name → IsLeastUnlisted Form.Configuration (text_members text.now) name) }
     ensures ranges { IfOk result IsConfig }
-    ensures long { most_bytes < length text.now → IsErrOf result (ConfigFault.TooLong (length text.now)) }
+    ensures long { longest_text < length text.now → IsErrOf result (ConfigFault.TooLong (length text.now)) }
 {
     let value = read_checked(alloc, Form::Configuration, text)?;
     Ok(Config {
@@ -89,7 +89,7 @@ pub fn read_meta(alloc: Global, text: &[u8]) -> Result<Meta, ConfigFault>
     ensures err { IfErr result (λ fault. fault ≢ NoMemory → meta_of text.now ≡ Err fault) }
     ensures least { IfErr result (λ fault. (name : List ℕ) → fault ≡ ConfigFault.Unknown name → IsLeastUnlisted Form.MetaText (text_members text.now) name) }
     ensures ranges { IfOk result IsMeta }
-    ensures long { most_bytes < length text.now → IsErrOf result (ConfigFault.TooLong (length text.now)) }
+    ensures long { longest_text < length text.now → IsErrOf result (ConfigFault.TooLong (length text.now)) }
 {
     let value = read_checked(alloc, Form::MetaText, text)?;
     Ok(Meta {

@@ -1,4 +1,5 @@
-// Each public call, on texts whose values and faults were worked out by hand from the table of keys.
+//! Each public call, on texts whose values and faults were worked out by hand from the table of keys.
+
 use crate::{ConfigFault, Meta, Shape, meta_text, read_config, read_meta};
 use std::alloc::Global;
 use std::process::Abort;

@@ -1,4 +1,4 @@
-// The values that the two texts stand for.
+//! The values that the two texts stand for.
 
 use crate::name::Name;
 

@@ -1,4 +1,4 @@
-// Writing the meta text.
+//! Writing the meta text.
 
 ghost use Rattle.std.specs.Prelude.{◌≡◌, IfOk};
 ghost use Rattle.serde_json.specs.Data.{object};

@@ -1,4 +1,4 @@
-// A page-table entry and its bits.
+//! A page-table entry and its bits.
 
 ghost use Rattle.std.specs.Prelude.{◌≡◌, ◌∷◌, ◌+◌, ◌*◌, ◌%◌, ◌^◌, ◌<◌, ◌≤◌, ◌&&◌, [], ⊤, codes};
 ghost use Rattle.rv_alu.specs.Bits.{has_bit};

@@ -1,4 +1,4 @@
-// Laws of the definitions, each as the contract of a call that does nothing.
+//! Laws of the definitions, each as the contract of a call that does nothing.
 
 ghost use Rattle.sv39_walk.specs.Laws.{KeepsAgreement, NoFaultBeside, OneAddress, OneFault, ReckonsAddress, ReckonsFault, StoreDiffers};
 

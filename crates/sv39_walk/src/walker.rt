@@ -1,4 +1,4 @@
-// The walker.
+//! The walker.
 
 ghost use Rattle.std.specs.Prelude.{◌≡◌, ◌+◌, ◌%◌, ◌^◌, ◌≤◌, ◌<◌, ◌↔◌, ℕ, List, [], IfOk};
 ghost use Rattle.sv39_walk.specs.declared.WalkFault.{WalkFault as Fault};

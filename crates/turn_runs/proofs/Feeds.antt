@@ -8,7 +8,7 @@ use Rattle.std.proofs.lemmas.Option.{slice_get_past}
 use Rattle.outside_acts.specs.Calls.{OnlyRead}
 use Rattle.outside_acts.specs.World.{World}
 use Rattle.turn_runs.specs.declared.feed.Feed.{Feed}
-use Rattle.turn_runs.specs.Feeding.{Fills, IsFed, IsFilled, held_count}
+use Rattle.turn_runs.specs.Feeding.{Fills, IsFed, IsFilled, byte_count}
 
 -- ---- lists
 
@@ -31,20 +31,20 @@ none_left bytes taken is =
 left_past : (bytes : List ℕ) (n : ℕ) → length bytes ≤ n → Some [] ≡ Some (drop n bytes)
 left_past bytes n past = ap (λ (zs : List ℕ). Some zs) (sym (drop_all n bytes past))
 
--- ---- a byte that is held, or an input that has ended
+-- ---- a byte that was read, or an input that has ended
 
-HeldIs : List ℕ → ℕ → Option ℕ → Type 0
-HeldIs bytes taken held = IfSome held (λ byte. slice_get bytes taken ≡ Some byte)
+ByteIs : List ℕ → ℕ → Option ℕ → Type 0
+ByteIs bytes taken byte = IfSome byte (λ b. slice_get bytes taken ≡ Some b)
 
-held_filled : (bytes : List ℕ) (taken : ℕ) (feed : Feed) (left : Option (List ℕ)) (held : Option ℕ) → feed.held ≡ held
-    → is_some held ≡ true → IsFed bytes taken feed left → IsFilled bytes taken feed left
-unfolding HeldIs
-held_filled bytes taken feed left None is some fed = cc
-held_filled bytes taken feed left (Some b) is some fed =
-    let next : slice_get bytes taken ≡ Some b = subst (HeldIs bytes taken) is fed.held_is in
+byte_filled : (bytes : List ℕ) (taken : ℕ) (feed : Feed) (left : Option (List ℕ)) (byte : Option ℕ) → feed.byte ≡ byte
+    → is_some byte ≡ true → IsFed bytes taken feed left → IsFilled bytes taken feed left
+unfolding ByteIs
+byte_filled bytes taken feed left None is some fed = cc
+byte_filled bytes taken feed left (Some b) is some fed =
+    let next : slice_get bytes taken ≡ Some b = subst (ByteIs bytes taken) is fed.byte_is in
     record {
-      held_next = is ∙ sym next;
-      left_is = fed.left_is ∙ ap (λ (h : Option ℕ). Some (drop (taken + held_count h) bytes)) is;
+      next_is = is ∙ sym next;
+      left_is = fed.left_is ∙ ap (λ (h : Option ℕ). Some (drop (taken + byte_count h) bytes)) is;
       fed = fed;
     }
 
@@ -53,17 +53,17 @@ ended_filled : (bytes : List ℕ) (taken : ℕ) (feed : Feed) (left : Option (Li
 ended_filled bytes taken feed left ended fed =
     let none = (fed.ended_is ended).0 in
     let past : length bytes ≤ taken = (fed.ended_is ended).1 in
-    let here = left_past bytes (taken + held_count feed.held) (omega arith) in
+    let here = left_past bytes (taken + byte_count feed.byte) (omega arith) in
     record {
-      held_next = none ∙ sym (slice_get_past bytes taken past);
+      next_is = none ∙ sym (slice_get_past bytes taken past);
       left_is = fed.left_is ∙ sym here ∙ left_past bytes (taken + 1) (omega arith);
       fed = fed;
     }
 
--- a byte is held, or the input has ended
-pub kept_fills : (feed : Feed) (a : World) → (is_some feed.held ≡ true) ⊎ (feed.ended ≡ true) → Fills feed feed a a
+-- there is a byte, or the input has ended
+pub kept_fills : (feed : Feed) (a : World) → (is_some feed.byte ≡ true) ⊎ (feed.ended ≡ true) → Fills feed feed a a
 kept_fills feed a (inl some) = record {
-  filled = λ bytes taken fed. held_filled bytes taken feed a.left feed.held refl some fed;
+  filled = λ bytes taken fed. byte_filled bytes taken feed a.left feed.byte refl some fed;
   ended = λ none. cc;
   rest = record { written = refl; held = refl };
 }
@@ -75,20 +75,20 @@ kept_fills feed a (inr ended) = record {
 
 -- ---- a byte that is read
 
--- of an input of which nothing is held, all but what was taken is left
-left_whole : (bytes : List ℕ) (taken : ℕ) (feed : Feed) (left : Option (List ℕ)) → feed.held ≡ None
+-- of an input of which there is no byte, all but what was taken is left
+left_whole : (bytes : List ℕ) (taken : ℕ) (feed : Feed) (left : Option (List ℕ)) → feed.byte ≡ None
     → IsFed bytes taken feed left → left ≡ Some (drop taken bytes)
 left_whole bytes taken feed left none fed =
-    let count : taken + held_count feed.held ≡ taken = ap (λ (h : Option ℕ). taken + held_count h) none ∙ omega arith in
+    let count : taken + byte_count feed.byte ≡ taken = ap (λ (h : Option ℕ). taken + byte_count h) none ∙ omega arith in
     fed.left_is ∙ ap (λ (n : ℕ). Some (drop n bytes)) count
 
 at_end : (xs : List ℕ) (now : Option (List ℕ)) → Consumes (Some xs) now [] → IsAtEnd now → (xs ≡ []) × (now ≡ Some [])
 at_end xs None consumed ended = absurd consumed
 at_end xs (Some ys) consumed ended = (consumed ∙ ended, ap (λ (zs : List ℕ). Some zs) ended)
 
-end_filled : (bytes : List ℕ) (taken : ℕ) (feed : Feed) (before now : Option (List ℕ)) → feed.held ≡ None
+end_filled : (bytes : List ℕ) (taken : ℕ) (feed : Feed) (before now : Option (List ℕ)) → feed.byte ≡ None
     → Consumes before now [] → IsAtEnd now → IsFed bytes taken feed before
-    → IsFilled bytes taken (record { held = feed.held; ended = true }) now
+    → IsFilled bytes taken (record { byte = feed.byte; ended = true }) now
 end_filled bytes taken feed before now none consumed ended fed =
     let whole = left_whole bytes taken feed before none fed in
     let here : Consumes (Some (drop taken bytes)) now [] =
@@ -96,11 +96,11 @@ end_filled bytes taken feed before now none consumed ended fed =
     let both = at_end (drop taken bytes) now here ended in
     let past : length bytes ≤ taken = none_left bytes taken both.0 in
     record {
-      held_next = none ∙ sym (slice_get_past bytes taken past);
+      next_is = none ∙ sym (slice_get_past bytes taken past);
       left_is = both.1 ∙ left_past bytes (taken + 1) (omega arith);
       fed = record {
-        left_is = both.1 ∙ left_past bytes (taken + held_count feed.held) (omega arith);
-        held_is = fed.held_is;
+        left_is = both.1 ∙ left_past bytes (taken + byte_count feed.byte) (omega arith);
+        byte_is = fed.byte_is;
         ended_is = λ yes. (none, past);
       };
     }
@@ -115,7 +115,7 @@ one_read xs ys (b ∷ c ∷ more) count is one most some = absurd (omega arith)
 
 after_one : (bytes buf : List ℕ) (taken count : ℕ) (ended : Bool) (now : Option (List ℕ)) → ended ≡ false
     → Consumes (Some (drop taken bytes)) now (take count buf) → length buf ≡ 1 → count ≤ 1 → (count ≡ 0 → ⊥)
-    → IsFilled bytes taken (record { held = Some (get_or buf 0 0); ended = ended }) now
+    → IsFilled bytes taken (record { byte = Some (get_or buf 0 0); ended = ended }) now
 after_one bytes buf taken count ended None goes consumed one most some = absurd consumed
 after_one bytes buf taken count ended (Some ys) goes consumed one most some =
     let is : drop taken bytes ≡ get_or buf 0 0 ∷ ys = one_read (drop taken bytes) ys buf count consumed one most some in
@@ -123,15 +123,15 @@ after_one bytes buf taken count ended (Some ys) goes consumed one most some =
     let rest : Some ys ≡ Some (drop (taken + 1) bytes) =
     ap (λ (zs : List ℕ). Some zs) (sym (rest_is bytes taken _ ys is)) in
     record {
-      held_next = sym next;
+      next_is = sym next;
       left_is = rest;
-      fed = record { left_is = rest; held_is = next; ended_is = λ yes. absurd (false≢true (sym goes ∙ yes)) };
+      fed = record { left_is = rest; byte_is = next; ended_is = λ yes. absurd (false≢true (sym goes ∙ yes)) };
     }
 
-one_filled : (bytes buf : List ℕ) (taken count : ℕ) (feed : Feed) (before now : Option (List ℕ)) → feed.held ≡ None
+one_filled : (bytes buf : List ℕ) (taken count : ℕ) (feed : Feed) (before now : Option (List ℕ)) → feed.byte ≡ None
     → feed.ended ≡ false → Consumes before now (take count buf) → length buf ≡ 1 → count ≤ 1 → (count ≡ 0 → ⊥)
     → IsFed bytes taken feed before
-    → IsFilled bytes taken (record { held = Some (get_or buf 0 0); ended = feed.ended }) now
+    → IsFilled bytes taken (record { byte = Some (get_or buf 0 0); ended = feed.ended }) now
 one_filled bytes buf taken count feed before now none goes consumed one most some fed =
     let whole = left_whole bytes taken feed before none fed in
     let here : Consumes (Some (drop taken bytes)) now (take count buf) =
@@ -139,8 +139,8 @@ one_filled bytes buf taken count feed before now none goes consumed one most som
     after_one bytes buf taken count feed.ended now goes here one most some
 
 -- the input has ended
-pub end_fills : {feed : Feed} {a b : World} → feed.held ≡ None → OnlyRead a b → Consumes a.left b.left []
-    → IsAtEnd b.left → Fills feed (record { held = feed.held; ended = true }) a b
+pub end_fills : {feed : Feed} {a b : World} → feed.byte ≡ None → OnlyRead a b → Consumes a.left b.left []
+    → IsAtEnd b.left → Fills feed (record { byte = feed.byte; ended = true }) a b
 end_fills {feed} {a} {b} none rest consumed ended = record {
   filled = λ bytes taken fed. end_filled bytes taken feed a.left b.left none consumed ended fed;
   ended = λ nothing. refl;
@@ -148,59 +148,59 @@ end_fills {feed} {a} {b} none rest consumed ended = record {
 }
 
 -- one byte was read
-pub one_fills : {feed : Feed} {a b : World} (buf : List ℕ) (count : ℕ) → feed.held ≡ None → feed.ended ≡ false
+pub one_fills : {feed : Feed} {a b : World} (buf : List ℕ) (count : ℕ) → feed.byte ≡ None → feed.ended ≡ false
     → OnlyRead a b → Consumes a.left b.left (take count buf) → length buf ≡ 1 → count ≤ 1 → (count ≡ 0 → ⊥)
-    → Fills feed (record { held = Some (get_or buf 0 0); ended = feed.ended }) a b
+    → Fills feed (record { byte = Some (get_or buf 0 0); ended = feed.ended }) a b
 one_fills {feed} {a} {b} buf count none goes rest consumed one most some = record {
   filled = λ bytes taken fed. one_filled bytes buf taken count feed a.left b.left none goes consumed one most some fed;
   ended = λ nothing. cc;
   rest = rest;
 }
 
-pub no_held : (held : Option ℕ) → is_some held ≡ false → held ≡ None
-no_held None is = refl
-no_held (Some b) is = cc
+pub no_byte : (byte : Option ℕ) → is_some byte ≡ false → byte ≡ None
+no_byte None is = refl
+no_byte (Some b) is = cc
 
 -- ---- after a turn
 
--- the turn took the byte that was held
+-- the turn took the byte
 fed_on : (bytes : List ℕ) (taken next : ℕ) (feed now : Feed) (left : Option (List ℕ)) → IsFilled bytes taken feed left
-    → now.held ≡ None → now.ended ≡ feed.ended → next ≡ taken + 1 → IsFed bytes next now left
-unfolding HeldIs
+    → now.byte ≡ None → now.ended ≡ feed.ended → next ≡ taken + 1 → IsFed bytes next now left
+unfolding ByteIs
 fed_on bytes taken next feed now left filled none ended one =
-    let held : next + held_count now.held ≡ next + 0 = ap (λ (h : Option ℕ). next + held_count h) none in
-    let count : next + held_count now.held ≡ taken + 1 = held ∙ omega arith in
+    let byte : next + byte_count now.byte ≡ next + 0 = ap (λ (h : Option ℕ). next + byte_count h) none in
+    let count : next + byte_count now.byte ≡ taken + 1 = byte ∙ omega arith in
     record {
       left_is = filled.left_is ∙ ap (λ (n : ℕ). Some (drop n bytes)) (sym count);
-      held_is = subst (HeldIs bytes next) (sym none) tt;
+      byte_is = subst (ByteIs bytes next) (sym none) tt;
       ended_is = λ yes. (none, let past = (filled.fed.ended_is (sym ended ∙ yes)).1 in omega (arith, past));
     }
 
 -- it took none
 fed_still : (bytes : List ℕ) (taken next : ℕ) (feed now : Feed) (left : Option (List ℕ)) → IsFilled bytes taken feed left
-    → now.held ≡ feed.held → now.ended ≡ feed.ended → next ≡ taken → IsFed bytes next now left
-unfolding HeldIs
-fed_still bytes taken next feed now left filled held ended same =
-    let count : next + held_count now.held ≡ taken + held_count feed.held =
-    ap (λ (h : Option ℕ). next + held_count h) held ∙ ap (λ (n : ℕ). n + held_count feed.held) same in
-    let here : HeldIs bytes next feed.held = subst (λ (n : ℕ). HeldIs bytes n feed.held) (sym same) filled.fed.held_is in
+    → now.byte ≡ feed.byte → now.ended ≡ feed.ended → next ≡ taken → IsFed bytes next now left
+unfolding ByteIs
+fed_still bytes taken next feed now left filled byte ended same =
+    let count : next + byte_count now.byte ≡ taken + byte_count feed.byte =
+    ap (λ (h : Option ℕ). next + byte_count h) byte ∙ ap (λ (n : ℕ). n + byte_count feed.byte) same in
+    let here : ByteIs bytes next feed.byte = subst (λ (n : ℕ). ByteIs bytes n feed.byte) (sym same) filled.fed.byte_is in
     record {
       left_is = filled.fed.left_is ∙ ap (λ (n : ℕ). Some (drop n bytes)) (sym count);
-      held_is = subst (HeldIs bytes next) (sym held) here;
+      byte_is = subst (ByteIs bytes next) (sym byte) here;
       ended_is = λ yes.
           let past = filled.fed.ended_is (sym ended ∙ yes) in
           let most = past.1 in
-          (held ∙ past.0, omega (arith, same, most));
+          (byte ∙ past.0, omega (arith, same, most));
     }
 
 -- as the number of bytes taken says
 fed_by : (bytes : List ℕ) (taken next : ℕ) (was : Bool) (feed now : Feed) (left : Option (List ℕ))
-    → IsFilled bytes taken feed left → now.held ≡ (if was then None else feed.held) → now.ended ≡ feed.ended
+    → IsFilled bytes taken feed left → now.byte ≡ (if was then None else feed.byte) → now.ended ≡ feed.ended
     → (was ≡ true → next ≡ taken + 1) → (was ≡ false → next ≡ taken) → IsFed bytes next now left
-fed_by bytes taken next true feed now left filled held ended took kept =
-    fed_on bytes taken next feed now left filled held ended (took refl)
-fed_by bytes taken next false feed now left filled held ended took kept =
-    fed_still bytes taken next feed now left filled held ended (kept refl)
+fed_by bytes taken next true feed now left filled byte ended took kept =
+    fed_on bytes taken next feed now left filled byte ended (took refl)
+fed_by bytes taken next false feed now left filled byte ended took kept =
+    fed_still bytes taken next feed now left filled byte ended (kept refl)
 
 apart : {next taken : ℕ} → ((eqb next taken ≡ true) × (next ≡ taken)) ⊎ ((eqb next taken ≡ false) × (next ≢ taken))
     → taken ≤ next → next ≤ taken + 1 → not (eqb next taken) ≡ true → next ≡ taken + 1
@@ -217,21 +217,21 @@ differs next taken least most is = apart (eqb_tells next taken) least most is
 equals : (next taken : ℕ) → not (next == taken) ≡ false → next ≡ taken
 equals next taken is = eqb-true next taken (from_not (next == taken) is)
 
--- the feed after a turn that took the held byte, or did not
+-- the feed after a turn that took the byte, or did not
 pub offered_fed : (bytes : List ℕ) (taken next : ℕ) (was : Bool) (feed now : Feed) (left : Option (List ℕ))
     → was ≡ not (next == taken) → taken ≤ next → next ≤ taken + 1 → IsFilled bytes taken feed left
-    → now.held ≡ (if was then None else feed.held) → now.ended ≡ feed.ended → IsFed bytes next now left
-offered_fed bytes taken next was feed now left was_is least most filled held ended =
-    fed_by bytes taken next was feed now left filled held ended
+    → now.byte ≡ (if was then None else feed.byte) → now.ended ≡ feed.ended → IsFed bytes next now left
+offered_fed bytes taken next was feed now left was_is least most filled byte ended =
+    fed_by bytes taken next was feed now left filled byte ended
     (λ yes. differs next taken least most (sym was_is ∙ yes))
     (λ no. equals next taken (sym was_is ∙ no))
 
--- where none is held of an input that goes on, the held byte was taken
+-- where there is no byte of an input that goes on, the byte before was taken
 pub took_by : (taken next : ℕ) (was : Bool) (feed now : Feed) → was ≡ not (next == taken) → taken ≤ next
-    → next ≤ taken + 1 → (feed.held ≡ None → IsTrue feed.ended) → now.held ≡ (if was then None else feed.held)
-    → now.ended ≡ feed.ended → now.held ≡ None → now.ended ≡ false → taken + 1 ≡ next
-took_by taken next true feed now was_is least most end held ended none on =
+    → next ≤ taken + 1 → (feed.byte ≡ None → IsTrue feed.ended) → now.byte ≡ (if was then None else feed.byte)
+    → now.ended ≡ feed.ended → now.byte ≡ None → now.ended ≡ false → taken + 1 ≡ next
+took_by taken next true feed now was_is least most end byte ended none on =
     sym (differs next taken least most (sym was_is))
-took_by taken next false feed now was_is least most end held ended none on =
-    let yes : feed.ended ≡ true = end (sym held ∙ none) in
+took_by taken next false feed now was_is least most end byte ended none on =
+    let yes : feed.ended ≡ true = end (sym byte ∙ none) in
     absurd (false≢true (sym on ∙ ended ∙ yes))

@@ -74,11 +74,11 @@ pub record Turns (m : MachineState) (offered : Option ℕ) (view : MachineView) 
 
 pub turn_made : {bytes : List ℕ} {from : ℕ} {m : MachineState} {view : MachineView} {end : TurnEnd} {was : Bool}
     {feed filled now : Feed} {a b : World} → Fills feed filled a b → IsFedFrom bytes m.taken from feed a.left
-    → Turns m filled.held view end → was ≡ not (view.machine.taken == m.taken)
-    → now.held ≡ (if was then None else filled.held) → now.ended ≡ filled.ended → IsTurned bytes from m view end now a b
-turn_made {bytes} {from} {m} {view} {end} {was} {feed} {filled} {now} {a} {b} fills fed turns was_is held ended =
+    → Turns m filled.byte view end → was ≡ not (view.machine.taken == m.taken)
+    → now.byte ≡ (if was then None else filled.byte) → now.ended ≡ filled.ended → IsTurned bytes from m view end now a b
+turn_made {bytes} {from} {m} {view} {end} {was} {feed} {filled} {now} {a} {b} fills fed turns was_is byte ended =
     let whole = fills.filled bytes m.taken fed.fed in
-    let on : turned m filled.held ≡ turn_on bytes m = ap (λ (offered : Option ℕ). turned m offered) whole.held_next in
+    let on : turned m filled.byte ≡ turn_on bytes m = ap (λ (offered : Option ℕ). turned m offered) whole.next_is in
     let did : Did bytes from (ReadTo (m.taken + 1) ∷ []) a b = did_read from fills.rest whole.left_is in
     let taken : ℕ = view.machine.taken in
     record {
@@ -88,11 +88,11 @@ turn_made {bytes} {from} {m} {view} {end} {was} {feed} {filled} {now} {a} {b} fi
       reached = record {
         machine = turns.machine_is ∙ ap (λ (t : Turned). t.machine) on;
         fed = record {
-          fed = offered_fed bytes m.taken taken was filled now b.left was_is turns.least turns.most whole held ended;
+          fed = offered_fed bytes m.taken taken was filled now b.left was_is turns.least turns.most whole byte ended;
           left_from = did.left_is;
           from_is = λ none goes.
               read_one (ReadTo (m.taken + 1)) from
-              ∙ took_by m.taken taken was filled now was_is turns.least turns.most fills.ended held ended none goes;
+              ∙ took_by m.taken taken was filled now was_is turns.least turns.most fills.ended byte ended none goes;
         };
         did = did;
       };

@@ -10,7 +10,7 @@ use Rattle.outside_acts.specs.Acts.{ReadTo, Did, DidCut, read, sent}
 use Rattle.outside_acts.specs.Calls.{OnlyRead}
 use Rattle.outside_acts.specs.World.{World}
 use Rattle.turn_runs.specs.declared.feed.Feed.{Feed}
-use Rattle.turn_runs.specs.Feeding.{HasPassed, held_count, pass_acts}
+use Rattle.turn_runs.specs.Feeding.{HasPassed, byte_count, pass_acts}
 use Rattle.outside_acts.proofs.Algebra.{IsFiled, did_none}
 use Rattle.outside_acts.proofs.OneAct.{cut_one, did_read}
 
@@ -49,17 +49,17 @@ left_after bytes count passed ended left is end within (inr same) = is ∙ ap (�
 
 pub has_passed : {bytes : List ℕ} {count passed : ℕ} {feed : Feed} {a b : World} → OnlyRead a b
     → b.left ≡ Some (drop passed bytes) → (IsTrue feed.ended → length bytes ≤ passed) → passed ≤ count
-    → feed.held ≡ None → (feed.ended ≡ true) ⊎ (passed ≡ count) → HasPassed bytes count feed a b
+    → feed.byte ≡ None → (feed.ended ≡ true) ⊎ (passed ≡ count) → HasPassed bytes count feed a b
 has_passed {bytes} {count} {passed} {feed} {a} {b} rest is end within none done =
     let left : b.left ≡ Some (drop count bytes) = left_after bytes count passed feed.ended b.left is end within done in
     let did : Did bytes 0 (pass_acts count) a b = pass_did count rest left in
-    let held : count + held_count feed.held ≡ count + 0 = ap (λ (h : Option ℕ). count + held_count h) none in
-    let whole : count ≡ count + held_count feed.held = omega (arith, held) in
+    let byte : count + byte_count feed.byte ≡ count + 0 = ap (λ (h : Option ℕ). count + byte_count h) none in
+    let whole : count ≡ count + byte_count feed.byte = omega (arith, byte) in
     record {
       fed = record {
         fed = record {
           left_is = left ∙ ap (λ (n : ℕ). Some (drop n bytes)) whole;
-          held_is = subst (λ (h : Option ℕ). IfSome h (λ byte. slice_get bytes count ≡ Some byte)) (sym none) tt;
+          byte_is = subst (λ (h : Option ℕ). IfSome h (λ b. slice_get bytes count ≡ Some b)) (sym none) tt;
           ended_is = λ yes. (none, let past = end yes in omega (arith, past));
         };
         left_from = did.left_is;

@@ -1,4 +1,4 @@
--- The input of a run, of which the code holds at most one byte that was read and that no turn has taken yet.
+-- The input of a run, of which at most one byte was read that no turn has taken yet.
 use Rattle.std.specs.Prelude.{◌≡◌, ◌≤◌, ℕ, zero, suc, ◌+◌, List, [], ◌∷◌, length, drop, IfSome, IsTrue, IsFalse, Option, Some, None, slice_get}
 use Rattle.std.specs.Io.KnownBytes.{Keeps}
 use Rattle.outside_acts.specs.declared.Stop.{Stop}
@@ -8,41 +8,41 @@ use Rattle.outside_acts.specs.Calls.{OnlyRead}
 use Rattle.outside_acts.specs.World.{World}
 use Rattle.turn_runs.specs.declared.feed.Feed.{Feed}
 
--- how many bytes are held: none or one
-abbrev pub held_count : Option ℕ → ℕ
-held_count None = 0
-held_count (Some byte) = 1
+-- how many bytes these are: none or one
+abbrev pub byte_count : Option ℕ → ℕ
+byte_count None = 0
+byte_count (Some byte) = 1
 
--- of the whole input, so many bytes were taken, and the next is held where one is; the rest is left
+-- of the whole input, so many bytes were taken, and the byte is the next, where there is one; the rest is left
 pub record IsFed (bytes : List ℕ) (taken : ℕ) (feed : Feed) (left : Option (List ℕ)) : Type 0 where
-  pub left_is : left ≡ Some (drop (taken + held_count feed.held) bytes)
-  pub held_is : IfSome feed.held (λ byte. slice_get bytes taken ≡ Some byte)
-  pub ended_is : IsTrue feed.ended → (feed.held ≡ None) × (length bytes ≤ taken)
+  pub left_is : left ≡ Some (drop (taken + byte_count feed.byte) bytes)
+  pub byte_is : IfSome feed.byte (λ byte. slice_get bytes taken ≡ Some byte)
+  pub ended_is : IsTrue feed.ended → (feed.byte ≡ None) × (length bytes ≤ taken)
 
--- the same, where so many bytes were read in all: as many as were taken, where none is held of an input that goes on
+-- the same, where so many bytes were read in all: as many as were taken, where there is no byte of an input that goes on
 pub record IsFedFrom (bytes : List ℕ) (taken from : ℕ) (feed : Feed) (left : Option (List ℕ)) : Type 0 where
   pub fed : IsFed bytes taken feed left
   pub left_from : left ≡ Some (drop from bytes)
-  pub from_is : feed.held ≡ None → IsFalse feed.ended → from ≡ taken
+  pub from_is : feed.byte ≡ None → IsFalse feed.ended → from ≡ taken
 
 -- ---- the byte that is offered next
 
--- it is held, where the input has one
+-- it was read, where the input has one
 pub record IsFilled (bytes : List ℕ) (taken : ℕ) (feed : Feed) (left : Option (List ℕ)) : Type 0 where
-  pub held_next : feed.held ≡ slice_get bytes taken
+  pub next_is : feed.byte ≡ slice_get bytes taken
   pub left_is : left ≡ Some (drop (taken + 1) bytes)
   pub fed : IsFed bytes taken feed left
 
--- the input was read for it, where none was held
+-- the input was read for it, where there was none
 pub record Fills (feed now : Feed) (before after : World) : Type 0 where
   pub filled : (bytes : List ℕ) (taken : ℕ) → IsFed bytes taken feed before.left → IsFilled bytes taken now after.left
-  pub ended : now.held ≡ None → IsTrue now.ended
+  pub ended : now.byte ≡ None → IsTrue now.ended
   pub rest : OnlyRead before after
 
--- the input failed where none was held, and none was read
+-- the input failed where there was no byte, and none was read
 pub record ReadsNothing (stop : Stop) (feed : Feed) (before after : World) : Type 0 where
   pub stop_is : stop ≡ Input
-  pub none : feed.held ≡ None
+  pub none : feed.byte ≡ None
   pub goes : IsFalse feed.ended
   pub same : Keeps before.left after.left
   pub rest : OnlyRead before after

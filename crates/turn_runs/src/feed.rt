@@ -1,4 +1,4 @@
-// The console's input, byte by byte.
+//! The console's input, byte by byte.
 
 ghost use Rattle.std.specs.Prelude.{◌≡◌, ℕ, List, IfErr, IsFalse, None, OnOk, Some, if◌then◌else◌};
 ghost use Rattle.outside_acts.specs.Acts.{DidCut};
@@ -15,8 +15,8 @@ const PIECE: usize = 4096;
 /// ended.
 #[derive(Drop)]
 pub struct Feed {
-    /// The byte, where one is held.
-    pub held: Option<u8>,
+    /// The byte, where there is one.
+    pub byte: Option<u8>,
     /// The input has no more.
     pub ended: bool,
 }
@@ -24,12 +24,12 @@ pub struct Feed {
 impl Feed {
     /// Nothing was read yet.
     pub fn new() -> Feed
-        ensures held { result.held ≡ None }
+        ensures byte { result.byte ≡ None }
         ensures begun { IsFalse result.ended }
         ensures fed { (bytes : List ℕ) → IsFedFrom bytes 0 0 result (Some bytes) }
     {
         Feed {
-            held: None,
+            byte: None,
             ended: false,
         }
     }
@@ -40,7 +40,7 @@ impl Feed {
     ///
     /// The input failed.
     pub fn pass_over<W: Outside>(&mut self, count: u64, outside: &mut W) -> Result<(), Stop>
-        requires fresh { self.old.held ≡ None }
+        requires fresh { self.old.byte ≡ None }
         requires begun { IsFalse self.old.ended }
         ensures passed { OnOk result ((bytes : List ℕ) → (W.world outside.old).left ≡ Some bytes →
             HasPassed bytes count self.new (W.world outside.old) (W.world outside.new)) }
@@ -67,7 +67,7 @@ impl Feed {
         Ok(())
     }
 
-    /// Reads one byte where none is held and the input has not ended.
+    /// Reads one byte where there is none and the input has not ended.
     pub(crate) fn fill<W: Outside>(&mut self, outside: &mut W) -> Result<(), Stop>
         ensures filled { OnOk result (Fills self.old self.new (W.world outside.old) (W.world outside.new)) }
         ensures unread { IfErr result (λ stop.
@@ -75,25 +75,25 @@ impl Feed {
         ensures cause { Caused (Only TheInput) result (W.world outside.old) (W.world outside.new) }
         ensures calm { W.quiet outside.old → GoesQuietly (W.quiet outside.new) result }
     {
-        if self.held.is_some() || self.ended {
+        if self.byte.is_some() || self.ended {
             return Ok(());
         }
         let mut buffer = [0u8];
         match outside.read(&mut buffer) {
             Ok(0) => self.ended = true,
-            Ok(_) => self.held = Some(buffer[0]),
+            Ok(_) => self.byte = Some(buffer[0]),
             Err(stop) => return Err(stop),
         }
         Ok(())
     }
 
-    /// After a turn that took the held byte, or did not.
+    /// After a turn that took the byte, or did not.
     pub(crate) fn offered(&mut self, was_taken: bool)
-        ensures held { self.new.held ≡ (if was_taken then None else self.old.held) }
+        ensures byte { self.new.byte ≡ (if was_taken then None else self.old.byte) }
         ensures ended { self.new.ended ≡ self.old.ended }
     {
         if was_taken {
-            self.held = None;
+            self.byte = None;
         }
     }
 }

@@ -1,4 +1,4 @@
-// What a cut leaves, in plain words, as the contract of a call that does nothing.
+//! What a cut leaves, in plain words, as the contract of a call that does nothing.
 
 ghost use Rattle.std.specs.Prelude.{List, ℕ};
 ghost use Rattle.hart_turns.specs.Machine.{MachineState};

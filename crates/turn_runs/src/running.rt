@@ -1,4 +1,4 @@
-// A run of a machine.
+//! A run of a machine.
 
 ghost use Rattle.std.specs.Prelude.{◌≡◌, ◌≢◌, ◌≤◌, ◌+◌, IfErr, IfOk, IsFalse, IsTrue};
 ghost use Rattle.hart_turns.specs.declared.machine.TurnEnd.TheVariants.{Goes};

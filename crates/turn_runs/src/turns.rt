@@ -1,4 +1,4 @@
-// One turn of a run: the input, the steps, the console and the logs.
+//! One turn of a run: the input, the steps, the console and the logs.
 
 ghost use Rattle.std.specs.Prelude.{◌≡◌, ◌<◌, ◌≤◌, ◌+◌, ◌++◌, ◌∷◌, [], All, IfErr, IfOk, OnOk};
 ghost use Rattle.commit_log.specs.Spelling.{HasSpelling};
@@ -38,7 +38,7 @@ fn make_turn<W: Outside>(
         Err(stop) => return Err(stop),
     }
     let before = machine.taken();
-    let end = machine.turn(feed.held);
+    let end = machine.turn(feed.byte);
     feed.offered(machine.taken() != before);
     Ok(end)
 }

@@ -1,15 +1,15 @@
-// A program of GNU as and ld 2.40 for riscv64-unknown-elf, with the names of its sections and the
-// symbols `_start` and `tohost`. objdump shows it as
-//
-//     80000000 <_start>:
-//     80000000:  00000297   auipc  t0,0x0
-//     80000004:  01828293   addi   t0,t0,24   # 80000018 <tohost>
-//     80000008:  00100313   li     t1,1
-//     8000000c:  0062b023   sd     t1,0(t0)
-//     80000010:  0000006f   j      80000010
-//
-// and readelf its one segment as offset 0x78, address 0x80000000, 0x20 bytes in the file and 0x28 in
-// memory. `tohost` is the doubleword of .data, and .bss has 8 bytes.
+//! A program of GNU as and ld 2.40 for riscv64-unknown-elf, with the names of its sections and the
+//! symbols `_start` and `tohost`. objdump shows it as
+//!
+//!     80000000 <_start>:
+//!     80000000:  00000297   auipc  t0,0x0
+//!     80000004:  01828293   addi   t0,t0,24   # 80000018 <tohost>
+//!     80000008:  00100313   li     t1,1
+//!     8000000c:  0062b023   sd     t1,0(t0)
+//!     80000010:  0000006f   j      80000010
+//!
+//! and readelf its one segment as offset 0x78, address 0x80000000, 0x20 bytes in the file and 0x28 in
+//! memory. `tohost` is the doubleword of .data, and .bss has 8 bytes.
 
 pub(super) static PROGRAM: [u8; 808] = [
     0x7f, 0x45, 0x4c, 0x46, 0x02, 0x01, 0x01, 0x00, 0x00, 0x00, 0x00, 0x00, 0x00, 0x00, 0x00, 0x00,

@@ -12,12 +12,12 @@ use Rattle.rom_gen.proofs.device_block.device_block.Goals as goal
 pub pool_place-requires : goal.pool_place-requires
 pool_place-requires c =
     let board : BoardState = c.args.board.now in
-    let e = device_drafted board c.args.next c.new-draft.result c.far.new.self c.time-time.ensures.fit c.new-draft.ensures.code (device_adds board c.args.next c.new-draft.result c.devices.new.self c.far.new.self c.in_ok-devices.ensures c.in_ok-far.ensures) in omega arith
+    let e = device_drafted board c.args.next c.new-draft.result c.far.new.self c.see_fit.ensures c.new-draft.ensures.code (device_adds board c.args.next c.new-draft.result c.devices.new.self c.far.new.self c.in_ok-devices.ensures c.in_ok-far.ensures) in omega arith
 
 pub devices-requires-2-clause-room : goal.devices-requires-2-clause-room
 devices-requires-2-clause-room c =
     let board : BoardState = c.args.board.now in
-    let e = device_drafted board c.args.next c.new-draft.result c.far.new.self c.time-time.ensures.fit c.new-draft.ensures.code (device_adds board c.args.next c.new-draft.result c.devices.new.self c.far.new.self c.in_ok-devices.ensures c.in_ok-far.ensures) in
+    let e = device_drafted board c.args.next c.new-draft.result c.far.new.self c.see_fit.ensures c.new-draft.ensures.code (device_adds board c.args.next c.new-draft.result c.devices.new.self c.far.new.self c.in_ok-devices.ensures c.in_ok-far.ensures) in
     let p = c.pool_place.ensures in
     let a = offset_begun c.new-writer.result c.pool_place.result c.new-writer.ensures.pool c.new-writer.ensures.place in
     omega arith
@@ -25,7 +25,7 @@ devices-requires-2-clause-room c =
 pub end-requires : goal.end-requires
 end-requires c =
     let board : BoardState = c.args.board.now in
-    let e = device_drafted board c.args.next c.new-writer.result c.far-2.new.self c.time-time.ensures.fit c.new-writer.ensures.code (device_adds board c.args.next c.new-writer.result c.devices-2.new.self c.far-2.new.self c.in_ok-devices-2.ensures c.in_ok-far-2.ensures) in omega arith
+    let e = device_drafted board c.args.next c.new-writer.result c.far-2.new.self c.see_fit.ensures c.new-writer.ensures.code (device_adds board c.args.next c.new-writer.result c.devices-2.new.self c.far-2.new.self c.in_ok-devices-2.ensures c.in_ok-far-2.ensures) in omega arith
 
 pub returns : goal.returns
 returns c =

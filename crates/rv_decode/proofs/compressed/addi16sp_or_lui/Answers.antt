@@ -16,5 +16,5 @@ returns-else-c-eq24833-clause-form c =
     let some_immediate : (bit_and c.args.c 0x107c == 0) ≡ false = differs (bit_and c.args.c 0x107c) 0 (λ e. omega (arith, e)) in
     let not_stack : (bit_and c.args.c 0xef83 == 0x6101) ≡ false = differs (bit_and c.args.c 0xef83) 0x6101 (λ e. omega (arith, e)) in
     let other_rd : (bit_and c.args.c 0xf80 == 0x100) ≡ false = differs (bit_and c.args.c 0xf80) 0x100 (λ e. let same : bit_and c.args.c 0xef83 ≡ 0x6101 = stack_mask c.args.c c.requires e in omega (arith, same)) in
-    let fits : FitsSigned w64 c.upper_immediate.result = search rules in
-    simp (in_key, some_immediate, not_stack, other_rd) (ap₂ (λ x y. Some (Insn.Lui x y)) c.far_rd.ensures (to_z-of_z w64 c.upper_immediate.result fits ∙ c.upper_immediate.ensures))
+    let fits : FitsSigned w64 c.upper_immediate-imm.result = search rules in
+    simp (in_key, some_immediate, not_stack, other_rd) (ap₂ (λ x y. Some (Insn.Lui x y)) c.far_rd-rd.ensures (to_z-of_z w64 c.upper_immediate-imm.result fits ∙ c.upper_immediate-imm.ensures))

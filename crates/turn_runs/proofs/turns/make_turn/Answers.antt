@@ -17,4 +17,4 @@ returns-clause-turned g c = λ bytes from fed.
       least = turn.grows;
       most = turn.at_most_one;
     })
-    (cc (c.taken.ensures, c.taken-before.ensures)) c.offered.ensures.held c.offered.ensures.ended
+    (cc (c.taken.ensures, c.taken-before.ensures)) c.offered.ensures.byte c.offered.ensures.ended

@@ -25,7 +25,7 @@ loop-passed-preserved g c =
           let now = passed_on bytes c.read.new.buf c.loop-passed.passed c.in-Ok.got _ _ before.0 most bytes_read in
           (now, λ yes. let past = before.1 yes in omega (arith, past));
       within = omega (arith, most, long, length-take c.if-left.size c.loop-passed.buffer);
-      held = inv.held;
+      byte = inv.byte;
       rest = only_read_both inv.rest c.in-Ok.ensures.rest;
       count = none_passed_both inv.count cause.count;
       same = cause.same ∙ inv.same;
@@ -37,9 +37,9 @@ loop-passed-preserved g c =
 pub returns-else-not-self-clause-passed : goal.returns-else-not-self-clause-passed
 returns-else-not-self-clause-passed g c = λ bytes is.
     let inv = c.loop-passed.invariant in
-    has_passed inv.rest (inv.stands bytes is).0 (inv.stands bytes is).1 inv.within inv.held (inl c.if-not-self.false)
+    has_passed inv.rest (inv.stands bytes is).0 (inv.stands bytes is).1 inv.within inv.byte (inl c.if-not-self.false)
 
 pub returns-after-loop-passed-clause-passed : goal.returns-after-loop-passed-clause-passed
 returns-after-loop-passed-clause-passed g c = λ bytes is.
     let inv = c.loop-passed.invariant in
-    has_passed inv.rest (inv.stands bytes is).0 (inv.stands bytes is).1 inv.within inv.held (inr (omega arith))
+    has_passed inv.rest (inv.stands bytes is).0 (inv.stands bytes is).1 inv.within inv.byte (inr (omega arith))

@@ -14,7 +14,7 @@ invariant-loop-passed g l =
       stands : (bytes : List ℕ) → before.left ≡ Some bytes
           → (now.left ≡ Some (drop l.passed bytes)) × (IsTrue l.self.ended → length bytes ≤ l.passed);
       within : l.passed ≤ l.count;
-      held : l.self.held ≡ None;
+      byte : l.self.byte ≡ None;
       rest : OnlyRead before now;
       count : NonePassedOver before.counts now.counts;
       same : now.objects ≡ before.objects;

@@ -1,7 +1,7 @@
 //! A load and a store of each size at each device register.
 
-use crate::step_tests::Did::{Loaded, Raised, Stored};
-use crate::step_tests::{Did, try_row};
+use crate::tests::steps::Did::{Loaded, Raised, Stored};
+use crate::tests::steps::{Did, try_row};
 use std::alloc::{AllocError, Global};
 use std::process::Abort;
 

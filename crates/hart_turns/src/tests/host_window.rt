@@ -1,7 +1,7 @@
-// The host window: words that end the run or send a byte, and when they are looked at.
+//! The host window: words that end the run or send a byte, and when they are looked at.
 
-use crate::step_tests::same;
 use crate::tests::Shown::{Nothing, Stored, Wrote};
+use crate::tests::steps::same;
 use crate::tests::{
     Row, SMALL, WINDOW, begins, go, is_event, leaves, machine_of, shows, stands, turn_ends, waits,
 };

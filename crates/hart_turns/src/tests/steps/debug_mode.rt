@@ -1,8 +1,8 @@
 //! Steps in debug mode, by tables. What is expected is reckoned by hand from External Debug Support and the
 //! choices of this board.
 
-use crate::step_tests::Did::{Loaded, Passed, Raised, Stored, Wrote};
-use crate::step_tests::{Did, Fixed, Row, counted, replay, same};
+use crate::tests::steps::Did::{Loaded, Passed, Raised, Stored, Wrote};
+use crate::tests::steps::{Did, Fixed, Row, counted, replay, same};
 use guest_ram::{BASE, GuestRam};
 use hart_step::Core;
 use hart_step::Priv::D;

@@ -1,7 +1,7 @@
 //! Accesses to control and status registers, and what each mode may do.
 
-use crate::step_tests::Did::{Passed, Raised, Saw, Wrote};
-use crate::step_tests::{Before, Did, PLAIN, Row, run_counted, run_rows, try_in};
+use crate::tests::steps::Did::{Passed, Raised, Saw, Wrote};
+use crate::tests::steps::{Before, Did, PLAIN, Row, run_counted, run_rows, try_in};
 use hart_step::Priv;
 use hart_step::Priv::{M, S, U};
 use std::alloc::{AllocError, Global};

@@ -1,7 +1,7 @@
 //! Fetches, loads and stores: what answers them, and the exceptions where nothing does.
 
-use crate::step_tests::Did::{Loaded, Passed, Raised, Stored, Updated, Wrote};
-use crate::step_tests::{
+use crate::tests::steps::Did::{Loaded, Passed, Raised, Stored, Updated, Wrote};
+use crate::tests::steps::{
     Before, Did, PLAIN, Row, Word, reserves, run_counted, run_rows, try_in, try_rows, with_data,
 };
 use hart_step::Priv;

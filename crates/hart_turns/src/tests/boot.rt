@@ -1,9 +1,9 @@
-// Boots of machines at reset in debug mode. The words are those of an assembler (llvm-mc), and what is
-// expected is reckoned by hand from External Debug Support and the choices of this board.
+//! Boots of machines at reset in debug mode. The words are those of an assembler (llvm-mc), and what is
+//! expected is reckoned by hand from External Debug Support and the choices of this board.
 
-use crate::step_tests::{counted, same};
-use crate::step_tests_debug::push_word;
 use crate::tests::Shown::Wrote;
+use crate::tests::steps::debug_mode::push_word;
+use crate::tests::steps::{counted, same};
 use crate::tests::{SMALL, go, is_event, is_shape, leaves, put_words, shows};
 use crate::{BootFault, Machine, NoMemory};
 use Ends::{Freed, Long, Trap};

@@ -1,4 +1,4 @@
-// The timer's interrupt: the step in which it comes.
+//! The timer's interrupt: the step in which it comes.
 
 use crate::tests::Shown::{Nothing, Stored, Wrote};
 use crate::tests::{Row, commit, go, is_event, leaves, small, stands};

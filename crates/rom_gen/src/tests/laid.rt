@@ -1,12 +1,12 @@
 //! Machines whose registers and devices have given numbers, which a ROM of its own form lays.
 
 use crate::NoMemory;
-use crate::tests::{Measures, comes_back};
-use crate::tests_numbers::{
+use crate::tests::numbers::{
     BORDERS, EIGHT, EIGHT_ROWS, IN_LOOP, IN_LOOP_ROWS, LARGEST_ROWS, LAYS, SHIFTED, TWO, TWO_ROWS,
 };
-use crate::tests_support::{booted, goes_on, machine_of};
-use crate::tests_words::PROGRAM;
+use crate::tests::support::{booted, goes_on, machine_of};
+use crate::tests::words::PROGRAM;
+use crate::tests::{Measures, comes_back};
 use byteorder::{ByteOrder, LittleEndian};
 use hart_turns::Machine;
 use std::alloc::Global;

@@ -1,8 +1,8 @@
-// A machine at reset: its harts, its registers and its devices.
+//! A machine at reset: its harts, its registers and its devices.
 
 use crate::Machine;
-use crate::step_tests::same;
 use crate::tests::Shown::{Loaded, Wrote};
+use crate::tests::steps::same;
 use crate::tests::{JUMPS, Row, SMALL, go, leaves, reserves, shows, small, stands, waits};
 use board_bus::Board;
 use csr_file::numbers;

@@ -1,7 +1,7 @@
 //! Instructions that compute, load, store and jump, in machine mode.
 
-use crate::step_tests::Did::{Passed, Stored, Wrote};
-use crate::step_tests::{
+use crate::tests::steps::Did::{Passed, Stored, Wrote};
+use crate::tests::steps::{
     DATA, Did, Fixed, PLAIN, Row, Tried, WORD_AT, Word, event_of, holds, run, run_counted, same,
     try_row, try_rows, try_word,
 };

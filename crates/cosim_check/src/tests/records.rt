@@ -1,4 +1,4 @@
-// Which records are allowed, and the field that is named of those that are not.
+//! Which records are allowed, and the field that is named of those that are not.
 
 use crate::Field::{
     Cause, Device, Hart, Host, Insn, Kind, Mode, Pc, Rd, StoreAt, StoreSize, StoreValue, Tval,

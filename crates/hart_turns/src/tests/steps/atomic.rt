@@ -1,7 +1,7 @@
 //! Atomic operations, and reservations of one hart and of two.
 
-use crate::step_tests::Did::{Holds, HoldsNothing, Passed, Raised, Stored, Updated, Wrote};
-use crate::step_tests::{
+use crate::tests::steps::Did::{Holds, HoldsNothing, Passed, Raised, Stored, Updated, Wrote};
+use crate::tests::steps::{
     Did, Fixed, PLAIN, Row, Start, compare, holds, reserves, run, run_rows, with_data,
 };
 use guest_ram::BASE;

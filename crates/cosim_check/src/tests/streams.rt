@@ -1,4 +1,4 @@
-// Streams in pieces, the lines that are judged, and the limit of records.
+//! Streams in pieces, the lines that are judged, and the limit of records.
 
 use crate::tests::{FAILED, Lines, MANY, RESERVED, RESERVES, judge_of, same};
 use crate::{Field, Verdict};

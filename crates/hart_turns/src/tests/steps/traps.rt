@@ -1,7 +1,7 @@
 //! Exceptions and interrupts, the handlers that they enter, and the returns.
 
-use crate::step_tests::Did::{Interrupted, Passed, Raised, Wrote};
-use crate::step_tests::{PLAIN, Row, Start, run_counted};
+use crate::tests::steps::Did::{Interrupted, Passed, Raised, Wrote};
+use crate::tests::steps::{PLAIN, Row, Start, run_counted};
 use hart_step::Priv::{M, S, U};
 use std::alloc::AllocError;
 

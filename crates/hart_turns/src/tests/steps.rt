@@ -6,6 +6,14 @@ ghost use Rattle.csr_file.specs.View.{volatile_bits};
 ghost use Rattle.trap_rules.specs.Interrupt.{may_be_taken, picked};
 ghost use Rattle.rv_alu.specs.Bits.{low_bytes};
 
+mod atomic;
+pub(crate) mod debug_mode;
+mod devices;
+mod memory;
+mod registers;
+mod traps;
+mod words;
+
 use csr_file::CsrFile;
 use csr_file::numbers::{MCAUSE, MCYCLE, MEPC, MINSTRET, MIP, MSTATUS, MTVAL};
 use guest_ram::{BASE, GuestRam};
