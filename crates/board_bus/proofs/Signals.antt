@@ -1,10 +1,10 @@
 -- Which bits the devices drive.
 use Rattle.std.proofs.Common.{◌≡◌, ◌+◌, Bool, true, false, refl, bit_and}
-use Rattle.board_bus.specs.Board.{live, signal}
+use Rattle.board_bus.specs.Board.{driven_bits, live, signal}
 use Rattle.board_bus.specs.Laws.{DrivesFourBits}
 
 -- any signals of the four interrupts
-four_bits : (software timer supervisor machine : Bool) → bit_and (signal 3 software + signal 7 timer + signal 9 supervisor + signal 11 machine) 0xa88 ≡ signal 3 software + signal 7 timer + signal 9 supervisor + signal 11 machine
+four_bits : (software timer supervisor machine : Bool) → bit_and (signal 3 software + signal 7 timer + signal 9 supervisor + signal 11 machine) driven_bits ≡ signal 3 software + signal 7 timer + signal 9 supervisor + signal 11 machine
 four_bits false false false false = refl
 four_bits false false false true = refl
 four_bits false false true false = refl

@@ -96,6 +96,10 @@ entered b byte = record b { console = console.entered b.console byte }
 abbrev pub signal : ℕ → Bool → ℕ
 signal n due = if due then 2 ^ n else 0
 
+-- the bits of mip that devices may drive: of the software interrupt, the timer's, and the external ones of S and of M
+abbrev pub driven_bits : ℕ
+driven_bits = 2 ^ 3 + 2 ^ 7 + 2 ^ 9 + 2 ^ 11
+
 -- the bits of mip that the devices drive for hart h (Privileged ISA, "Machine Interrupt Registers"): the software
 -- interrupt, the timer's, and the external ones of S and of M, which are those of the hart's two contexts
 unfoldable pub live : BoardState → ℕ → ℕ

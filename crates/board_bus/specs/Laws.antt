@@ -1,11 +1,11 @@
 -- What follows from the definitions.
 use Rattle.std.specs.Prelude.{◌≡◌, ◌≤◌, ◌<◌, ◌^◌, ℕ, List, length, bit_and, unwrap_or}
 use Rattle.console.specs.Access.{most_sent}
-use Rattle.board_bus.specs.Board.{BoardState, IsFit, after_load, hart_count, live, loaded, sent, stored}
+use Rattle.board_bus.specs.Board.{BoardState, IsFit, after_load, driven_bits, hart_count, live, loaded, sent, stored}
 
 -- the devices drive no bits but 3, 7, 9 and 11
 abbrev pub DrivesFourBits : Type 0
-DrivesFourBits = (b : BoardState) (h : ℕ) → bit_and (live b h) 0xa88 ≡ live b h
+DrivesFourBits = (b : BoardState) (h : ℕ) → bit_and (live b h) driven_bits ≡ live b h
 
 -- loads and stores leave the number of harts as it is
 abbrev pub LoadKeepsHarts : Type 0

@@ -6,7 +6,7 @@ ghost use Rattle.clint.specs.State as clint;
 ghost use Rattle.console.specs.State.{levels_of, queue_room};
 ghost use Rattle.console.specs.Output.{spare_of};
 ghost use Rattle.console.specs.Access.{most_sent};
-ghost use Rattle.board_bus.specs.Board.{IsFit, after_load, after_load_in, entered, hart_count, live, loaded, loaded_in, reset_board, sent, sent_in, signal, stored, stored_in, ticked};
+ghost use Rattle.board_bus.specs.Board.{IsFit, after_load, after_load_in, driven_bits, entered, hart_count, live, loaded, loaded_in, reset_board, sent, sent_in, signal, stored, stored_in, ticked};
 ghost use Rattle.board_bus.specs.Listed.{is_listed, is_listed_in};
 
 use crate::place::{Place, place_of};
@@ -115,7 +115,7 @@ impl Board {
     pub fn live(&self, h: u8) -> u64
         requires { h < hart_count self.now }
         ensures value { result ≡ live self.now h }
-        ensures volatile { bit_and result 0xa88 ≡ result }
+        ensures volatile { bit_and result driven_bits ≡ result }
     {
         let levels = self.console.levels();
         signals(
@@ -297,7 +297,7 @@ impl Board {
 /// The word of the interrupts that are due: bits 3, 7, 9 and 11.
 fn signals(software: bool, timer: bool, supervisor: bool, machine: bool) -> u64
     ensures value { result ≡ signal 3 software + signal 7 timer + signal 9 supervisor + signal 11 machine }
-    ensures volatile { bit_and result 0xa88 ≡ result }
+    ensures volatile { bit_and result driven_bits ≡ result }
 {
     signal(3, software) + signal(7, timer) + signal(9, supervisor) + signal(11, machine)
 }

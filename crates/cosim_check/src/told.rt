@@ -22,24 +22,14 @@ struct Told {
 }
 
 impl Answers for Told {
-    ghost use Rattle.std.specs.Prelude.{bit_and, ⊤};
-    ghost use Rattle.rv_alu.specs.Bits.{low_bytes as low_bytes_of};
-    ghost use Rattle.csr_file.specs.View.{volatile_bits};
-    ghost use Rattle.cosim_check.specs.Answering.{told_interrupt};
+    ghost use Rattle.std.specs.Prelude.{⊤};
+    ghost use Rattle.cosim_check.specs.Answering.{record_says};
 
     ghost ready = { λ t h. ⊤ };
 
-    ghost interrupts = { λ t h csrs mode. told_interrupt t.interrupt csrs mode };
+    ghost says = { λ t h. record_says t };
 
-    ghost devices = { λ t h at size. low_bytes_of size t.device };
-
-    ghost volatiles = { λ t h number csrs. bit_and t.volatile (volatile_bits number) };
-
-    ghost wins = { λ t h. t.wins };
-
-    ghost loaded = { λ t h at size. t };
-
-    ghost stored = { λ t h at size value ram. t };
+    ghost after = { λ t h ram access. t };
 
     #[inline(always)]
     fn interrupt(&mut self, _hart: u8, csrs: &CsrFile, mode: Mode) -> Option<u8> {

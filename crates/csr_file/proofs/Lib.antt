@@ -2,3 +2,4 @@ pub mod LegalLaws
 pub mod FitLaws
 pub mod AccessLaws
 pub mod WriteLaws
+pub mod BackLaws

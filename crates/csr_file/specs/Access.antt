@@ -23,13 +23,13 @@ is_enabled enable number = has_bit enable (number - csr_cycle)
 -- mcounteren and scounteren enable (Privileged ISA, "Machine Counter-Enable Register", "Counter-Enable Register")
 abbrev pub may_count : Registers → Mode → ℕ → Bool
 may_count r Mode.M number = true
-may_count r Mode.S number = is_enabled r.mcounteren number
-may_count r Mode.U number = is_enabled r.mcounteren number && is_enabled r.scounteren number
+may_count r Mode.S number = is_enabled r.kept.mcounteren number
+may_count r Mode.U number = is_enabled r.kept.mcounteren number && is_enabled r.kept.scounteren number
 
 -- the bit TVM of mstatus keeps supervisor mode away from satp
 -- (Privileged ISA, "Virtualization Support in mstatus Register")
 abbrev pub is_trapped : Registers → Mode → ℕ → Bool
-is_trapped r mode number = (number == csr_satp) && (level mode == 1) && not (bit_and r.mstatus mstatus_tvm == 0)
+is_trapped r mode number = (number == csr_satp) && (level mode == 1) && not (bit_and r.kept.mstatus mstatus_tvm == 0)
 
 -- in this mode, the register may be read, or written too
 unfoldable pub allows : Registers → Mode → ℕ → Bool → Bool

@@ -17,6 +17,8 @@ next count = (count + 1) % 2 ^ 64
 unfoldable pub counted : Bool → Option ℕ → Registers → Registers
 counted retired wrote r =
     record r {
-      mcycle = if has_written wrote csr_mcycle then r.mcycle else next r.mcycle;
-      minstret = if not retired || has_written wrote csr_minstret then r.minstret else next r.minstret;
+      kept = record r.kept {
+        mcycle = if has_written wrote csr_mcycle then r.kept.mcycle else next r.kept.mcycle;
+        minstret = if not retired || has_written wrote csr_minstret then r.kept.minstret else next r.kept.minstret;
+      };
     }

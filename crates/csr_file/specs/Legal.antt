@@ -1,7 +1,7 @@
 -- The values that registers keep: each write keeps a legal value (Privileged ISA, "CSR Field Specifications", WARL).
-use Rattle.std.specs.Prelude.{◌≡◌, ℕ, ◌+◌, ◌-◌, ◌/◌, ◌%◌, ◌^◌, ◌==◌, Bool, ◌||◌, bit_and, bit_or, if◌then◌else◌, List, [], ◌∷◌, ◌++◌}
+use Rattle.std.specs.Prelude.{◌≡◌, ℕ, ◌+◌, ◌-◌, ◌/◌, ◌%◌, ◌^◌, ◌==◌, Bool, ◌||◌, bit_and, bit_or, if◌then◌else◌, List, [], ◌∷◌}
 use Rattle.std.specs.List.{list_any}
-use Rattle.csr_file.specs.Numbers.{csr_dcsr, csr_dpc, csr_dscratch0, csr_dscratch1, csr_mcause, csr_mcounteren, csr_mcycle, csr_medeleg, csr_menvcfg, csr_mepc, csr_mideleg, csr_mie, csr_minstret, csr_mip, csr_mscratch, csr_mstatus, csr_mtval, csr_mtvec, csr_satp, csr_scause, csr_scounteren, csr_senvcfg, csr_sepc, csr_sscratch, csr_stval, csr_stvec}
+use Rattle.csr_file.specs.Numbers.{csr_dcsr, csr_dpc, csr_mcause, csr_mcounteren, csr_mcycle, csr_medeleg, csr_menvcfg, csr_mepc, csr_mideleg, csr_mie, csr_minstret, csr_mip, csr_mscratch, csr_mstatus, csr_mtval, csr_mtvec, csr_satp, csr_scause, csr_scounteren, csr_senvcfg, csr_sepc, csr_sscratch, csr_stval, csr_stvec, is_debug_number}
 use Rattle.csr_file.specs.Bits.{all_bits, all_interrupts, counter_bits, dcsr_fixed, envcfg_fiom, even, medeleg_bits, mstatus_bits, mstatus_mpp, mstatus_mpp_reserved, mstatus_xlen, supervisor_interrupts, vector_bits}
 
 -- the value at reset of a register that keeps a value (Privileged ISA, "Reset"; External Debug Support, "Debug Control
@@ -9,31 +9,22 @@ use Rattle.csr_file.specs.Bits.{all_bits, all_interrupts, counter_bits, dcsr_fix
 unfoldable pub reset_value : ℕ → ℕ
 reset_value number = if number == csr_mstatus then mstatus_xlen else if number == csr_dcsr then dcsr_fixed + 3 else 0
 
--- a register that keeps a value: its number, and its value at reset
-pub record Slot : Type 0 where
-  pub number : ℕ
-  pub reset : ℕ
-
-abbrev pub slot : ℕ → Slot
-slot number = record { number = number; reset = reset_value number }
-
 -- the registers that every hart keeps, in the order in which they are put back when a hart is restored
-unfoldable pub kept_slots : List Slot
-kept_slots =
-    slot csr_mstatus ∷ slot csr_medeleg ∷ slot csr_mideleg ∷ slot csr_mie ∷ slot csr_mtvec ∷ slot csr_mcounteren ∷ slot csr_menvcfg ∷ slot csr_mscratch ∷ slot csr_mepc ∷ slot csr_mcause ∷ slot csr_mtval ∷ slot csr_mip ∷ slot csr_stvec ∷ slot csr_scounteren ∷ slot csr_senvcfg ∷ slot csr_sscratch ∷ slot csr_sepc ∷ slot csr_scause ∷ slot csr_stval ∷ slot csr_satp ∷ slot csr_mcycle ∷ slot csr_minstret ∷ []
+unfoldable pub kept_numbers : List ℕ
+kept_numbers =
+    csr_mstatus ∷ csr_medeleg ∷ csr_mideleg ∷ csr_mie ∷ csr_mtvec ∷ csr_mcounteren ∷ csr_menvcfg ∷ csr_mscratch ∷ csr_mepc ∷ csr_mcause ∷ csr_mtval ∷ csr_mip ∷ csr_stvec ∷ csr_scounteren ∷ csr_senvcfg ∷ csr_sscratch ∷ csr_sepc ∷ csr_scause ∷ csr_stval ∷ csr_satp ∷ csr_mcycle ∷ csr_minstret ∷ []
 
--- all that are put back: those, and then the two that dret reads
-unfoldable pub slots : List Slot
-slots = kept_slots ++ slot csr_dcsr ∷ slot csr_dpc ∷ []
+-- a fact that holds of each number of a list
+abbrev pub EachNumber : (ℕ → Type 0) → List ℕ → Type 0
+EachNumber P [] = Unit {0}
+EachNumber P (number ∷ rest) = P number × EachNumber P rest
 
--- a fact that holds of each slot of a list
-abbrev pub EachSlot : (Slot → Type 0) → List Slot → Type 0
-EachSlot P [] = Unit {0}
-EachSlot P (s ∷ rest) = P s × EachSlot P rest
+unfoldable pub is_kept_number : ℕ → Bool
+is_kept_number number = list_any (λ n. number == n) kept_numbers
 
--- the registers that keep a value: those, and the two scratch registers of debug mode
+-- the registers that keep a value: those, and the four of debug mode
 unfoldable pub keeps_value : ℕ → Bool
-keeps_value number = list_any (λ s. s.number == number) slots || (number == csr_dscratch0) || (number == csr_dscratch1)
+keeps_value number = is_kept_number number || is_debug_number number
 
 -- mstatus keeps its writable bits, where the reserved value 2 of MPP becomes 0, and SXL and UXL are
 -- always 2 (Privileged ISA, "Machine Status Registers")

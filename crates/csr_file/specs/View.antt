@@ -1,6 +1,6 @@
 -- What an instruction reads of a register, and on what its set and clear forms work.
 -- `given` is the word of a volatile register: what the hart's surroundings say it is now.
-use Rattle.std.specs.Prelude.{◌≡◌, ℕ, ◌==◌, Bool, ◌||◌, bit_and, bit_or, if◌then◌else◌}
+use Rattle.std.specs.Prelude.{◌≡◌, ℕ, ◌==◌, Bool, ◌||◌, not, bit_and, bit_or, if◌then◌else◌}
 use Rattle.csr_file.specs.Numbers.{csr_cycle, csr_instret, csr_mcycle, csr_mhartid, csr_mip, csr_misa, csr_sie, csr_sip, csr_sstatus, csr_time}
 use Rattle.csr_file.specs.Bits.{all_bits, mip_live, misa_value, sip_live, sstatus_read}
 use Rattle.csr_file.specs.declared.registers.Registers.{Registers}
@@ -17,8 +17,7 @@ volatile_bits number =
 
 -- the registers that have such bits
 unfoldable pub is_volatile_number : ℕ → Bool
-is_volatile_number number =
-    number == csr_cycle || number == csr_time || number == csr_mcycle || number == csr_mip || number == csr_sip
+is_volatile_number number = not (volatile_bits number == 0)
 
 -- given has no bit outside the register's volatile bits
 abbrev pub IsGiven : ℕ → ℕ → Type 0
@@ -29,12 +28,12 @@ IsGiven number given = bit_and given (volatile_bits number) ≡ given
 -- A register that keeps a value and has no line of its own reads as it; any other reads 0
 unfoldable pub view : Registers → ℕ → ℕ → ℕ
 view r number given =
-    if number == csr_sstatus then bit_and r.mstatus sstatus_read
-    else if number == csr_sie then bit_and r.mie r.mideleg
-    else if number == csr_sip then bit_and (bit_or r.mip given) r.mideleg
-    else if number == csr_mip then bit_or r.mip given
+    if number == csr_sstatus then bit_and r.kept.mstatus sstatus_read
+    else if number == csr_sie then bit_and r.kept.mie r.kept.mideleg
+    else if number == csr_sip then bit_and (bit_or r.kept.mip given) r.kept.mideleg
+    else if number == csr_mip then bit_or r.kept.mip given
     else if (number == csr_cycle) || (number == csr_time) || (number == csr_mcycle) then given
-    else if number == csr_instret then r.minstret
+    else if number == csr_instret then r.kept.minstret
     else if number == csr_misa then misa_value
     else if number == csr_mhartid then r.hart
     else kept_value number r
@@ -43,6 +42,6 @@ view r number given =
 -- the bits which devices drive are not written back (Privileged ISA, "Machine Interrupt Registers")
 unfoldable pub base : Registers → ℕ → ℕ → ℕ
 base r number given =
-    if number == csr_mip then r.mip
-    else if number == csr_sip then bit_and r.mip r.mideleg
+    if number == csr_mip then r.kept.mip
+    else if number == csr_sip then bit_and r.kept.mip r.kept.mideleg
     else view r number given

@@ -11,16 +11,6 @@ use Rattle.csr_file.specs.Kept.{kept_value, with_kept}
 abbrev pub merged : ℕ → ℕ → ℕ → ℕ
 merged mask old v = bit_or (bit_and old (all_bits - mask)) (bit_and v mask)
 
--- A write to a view writes these bits of the register that it shows: of mstatus those of sstatus, of mie those
--- that mideleg delegates, of mip the supervisor software interrupt where mideleg delegates it. Any other
--- register keeps the legal value, and one that keeps none ignores the write. All other registers stay
-unfoldable pub written : ℕ → ℕ → Registers → Registers
-written number v r =
-    if number == csr_sstatus then record r { mstatus = legal csr_mstatus r.mstatus (merged sstatus_bits r.mstatus v) }
-    else if number == csr_sie then record r { mie = legal csr_mie r.mie (merged r.mideleg r.mie v) }
-    else if number == csr_sip then record r { mip = legal csr_mip r.mip (merged (bit_and r.mideleg supervisor_software) r.mip v) }
-    else with_kept number (legal number (kept_value number r) v) r
-
 -- the one register whose kept value a write to `number` may change: that of which it is a view, else itself
 unfoldable pub changed_register : ℕ → ℕ
 changed_register number =
@@ -28,3 +18,18 @@ changed_register number =
     else if number == csr_sie then csr_mie
     else if number == csr_sip then csr_mip
     else number
+
+-- What a write of v to `number` asks that register to keep. A write to a view writes these bits of it: of mstatus those
+-- of sstatus, of mie those that mideleg delegates, of mip the supervisor software interrupt where mideleg delegates it
+unfoldable pub asked_value : ℕ → ℕ → Registers → ℕ
+asked_value number v r =
+    if number == csr_sstatus then merged sstatus_bits r.kept.mstatus v
+    else if number == csr_sie then merged r.kept.mideleg r.kept.mie v
+    else if number == csr_sip then merged (bit_and r.kept.mideleg supervisor_software) r.kept.mip v
+    else v
+
+-- the register keeps the legal value, and one that keeps none ignores the write. All other registers stay
+unfoldable pub written : ℕ → ℕ → Registers → Registers
+written number v r =
+    let changed : ℕ = changed_register number in
+    with_kept changed (legal changed (kept_value changed r) (asked_value number v r)) r

@@ -113,7 +113,7 @@ impl Registers {
     fn traps(&self, mode: Mode, num: u16) -> bool
         ensures { result ≡ is_trapped self.now mode num }
     {
-        num == SATP && mode == Mode::S && self.mstatus & MSTATUS_TVM != 0
+        num == SATP && mode == Mode::S && self.kept.mstatus & MSTATUS_TVM != 0
     }
 
     /// Whether the counter may be read in `mode`.
@@ -124,8 +124,9 @@ impl Registers {
     {
         match mode {
             Mode::M => true,
-            Mode::S => enables(self.mcounteren, counter),
-            Mode::U => enables(self.mcounteren, counter) && enables(self.scounteren, counter),
+            Mode::S => enables(self.kept.mcounteren, counter),
+            Mode::U => enables(self.kept.mcounteren, counter)
+                && enables(self.kept.scounteren, counter),
         }
     }
 

@@ -13,10 +13,10 @@ impl Registers {
         ensures { self.new ≡ counted retired wrote self.old }
     {
         if wrote != Some(MCYCLE) {
-            self.mcycle = self.mcycle.wrapping_add(1);
+            self.kept.mcycle = self.kept.mcycle.wrapping_add(1);
         }
         if retired && wrote != Some(MINSTRET) {
-            self.minstret = self.minstret.wrapping_add(1);
+            self.kept.minstret = self.kept.minstret.wrapping_add(1);
         }
     }
 }

@@ -1,15 +1,15 @@
 //! Reading and writing the kept values by register number.
-#![tactic(auto, unfolding(crate::specs::Kept::kept_value, crate::specs::Kept::debug_kept, crate::specs::Kept::with_kept, crate::specs::Kept::with_debug_kept))]
+#![tactic(auto, unfolding(crate::specs::Kept::kept_in, crate::specs::Kept::kept_from, crate::specs::Kept::debug_kept, crate::specs::Kept::debug_from, crate::specs::Kept::kept_value, crate::specs::Kept::with_kept))]
 
 ghost use Rattle.std.specs.Prelude.{◌≡◌};
-ghost use Rattle.csr_file.specs.Kept.{debug_kept, kept_value, with_debug_kept, with_kept};
+ghost use Rattle.csr_file.specs.Kept.{debug_from, debug_kept, kept_from, kept_in, kept_value, replaced, with_kept};
 
 use crate::numbers::{
     DCSR, DPC, DSCRATCH0, DSCRATCH1, MCAUSE, MCOUNTEREN, MCYCLE, MEDELEG, MENVCFG, MEPC, MIDELEG,
     MIE, MINSTRET, MIP, MSCRATCH, MSTATUS, MTVAL, MTVEC, SATP, SCAUSE, SCOUNTEREN, SENVCFG, SEPC,
     SSCRATCH, STVAL, STVEC,
 };
-use crate::registers::{DebugRegs, Registers};
+use crate::registers::{DebugRegs, KeptRegs, Registers};
 
 impl DebugRegs {
     /// The value that register `num` keeps.
@@ -27,7 +27,7 @@ impl DebugRegs {
 
     /// Keeps `x` in register `num`.
     fn put(&mut self, num: u16, x: u64)
-        ensures { self.new ≡ with_debug_kept num x self.old }
+        ensures { self.new ≡ debug_from (replaced num x (λ n. debug_kept n self.old)) }
     {
         match num {
             DCSR => self.dcsr = x,
@@ -39,10 +39,10 @@ impl DebugRegs {
     }
 }
 
-impl Registers {
+impl KeptRegs {
     /// The value that register `num` keeps.
-    pub(crate) fn kept(&self, num: u16) -> u64
-        ensures { result ≡ kept_value num self.now }
+    fn kept(&self, num: u16) -> u64
+        ensures { result ≡ kept_in num self.now }
     {
         match num {
             MSTATUS => self.mstatus,
@@ -67,17 +67,13 @@ impl Registers {
             SATP => self.satp,
             MCYCLE => self.mcycle,
             MINSTRET => self.minstret,
-            DCSR..=DSCRATCH1 => match &self.debug {
-                Some(debug) => debug.kept(num),
-                None => 0,
-            },
             _ => 0,
         }
     }
 
     /// Keeps `x` in register `num`.
-    pub(crate) fn put(&mut self, num: u16, x: u64)
-        ensures { self.new ≡ with_kept num x self.old }
+    fn put(&mut self, num: u16, x: u64)
+        ensures { self.new ≡ kept_from (replaced num x (λ n. kept_in n self.old)) }
     {
         match num {
             MSTATUS => self.mstatus = x,
@@ -102,12 +98,32 @@ impl Registers {
             SATP => self.satp = x,
             MCYCLE => self.mcycle = x,
             MINSTRET => self.minstret = x,
-            DCSR..=DSCRATCH1 => {
-                if let Some(debug) = &mut self.debug {
-                    debug.put(num, x);
-                }
-            }
             _ => {}
+        }
+    }
+}
+
+impl Registers {
+    /// The value that register `num` keeps.
+    pub(crate) fn kept(&self, num: u16) -> u64
+        ensures { result ≡ kept_value num self.now }
+    {
+        match num {
+            DCSR..=DSCRATCH1 => match &self.debug {
+                Some(debug) => debug.kept(num),
+                None => 0,
+            },
+            _ => self.kept.kept(num),
+        }
+    }
+
+    /// Keeps `x` in register `num`.
+    pub(crate) fn put(&mut self, num: u16, x: u64)
+        ensures { self.new ≡ with_kept num x self.old }
+    {
+        self.kept.put(num, x);
+        if let Some(debug) = &mut self.debug {
+            debug.put(num, x);
         }
     }
 }

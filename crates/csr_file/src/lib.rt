@@ -15,5 +15,5 @@ mod tests;
 mod view;
 
 pub use file::{CsrFile, Illegal};
-pub use registers::{DebugRegs, Registers};
+pub use registers::{DebugRegs, KeptRegs, Registers};
 pub use view::merge;

@@ -11,12 +11,9 @@ pub struct DebugRegs {
     pub dscratch1: u64,
 }
 
-/// The values that a hart keeps, a field for each register of the same name: what contracts see of a
-/// `CsrFile`.
-#[derive(Drop)]
-pub struct Registers {
-    /// The hart's number, which `mhartid` reads.
-    pub hart: u8,
+/// The registers that a hart has in every mode, a field for each of the same name.
+#[derive(Clone, Copy, Default)]
+pub struct KeptRegs {
     pub mstatus: u64,
     pub medeleg: u64,
     pub mideleg: u64,
@@ -40,6 +37,14 @@ pub struct Registers {
     pub satp: u64,
     pub mcycle: u64,
     pub minstret: u64,
+}
+
+/// The values that a hart keeps: what contracts see of a `CsrFile`.
+#[derive(Drop)]
+pub struct Registers {
+    /// The hart's number, which `mhartid` reads.
+    pub hart: u8,
+    pub kept: KeptRegs,
     /// The debug registers, in debug mode.
     pub debug: Option<DebugRegs>,
 }

@@ -1,12 +1,12 @@
 //! The values at reset.
-#![tactic(auto, unfolding(crate::specs::Kept::reset_registers, crate::specs::Kept::reset_debug_registers, crate::specs::Legal::reset_value))]
+#![tactic(auto, unfolding(crate::specs::Kept::kept_from, crate::specs::Kept::debug_from, crate::specs::Kept::reset_registers, crate::specs::Kept::reset_debug_registers, crate::specs::Legal::reset_value))]
 
 ghost use Rattle.std.specs.Prelude.{◌≡◌, Some};
 ghost use Rattle.csr_file.specs.Kept.{reset_debug_registers, reset_registers};
 ghost use Rattle.csr_file.specs.Legal.{reset_value};
 
 use crate::masks::{DCSR_FIXED, MSTATUS_XLEN};
-use crate::registers::{DebugRegs, Registers};
+use crate::registers::{DebugRegs, KeptRegs, Registers};
 
 impl Registers {
     /// The registers of a hart at reset.
@@ -15,28 +15,10 @@ impl Registers {
     {
         Registers {
             hart,
-            mstatus: MSTATUS_XLEN,
-            medeleg: 0,
-            mideleg: 0,
-            mie: 0,
-            mtvec: 0,
-            mcounteren: 0,
-            menvcfg: 0,
-            mscratch: 0,
-            mepc: 0,
-            mcause: 0,
-            mtval: 0,
-            mip: 0,
-            stvec: 0,
-            scounteren: 0,
-            senvcfg: 0,
-            sscratch: 0,
-            sepc: 0,
-            scause: 0,
-            stval: 0,
-            satp: 0,
-            mcycle: 0,
-            minstret: 0,
+            kept: KeptRegs {
+                mstatus: MSTATUS_XLEN,
+                ..KeptRegs::default()
+            },
             debug: None,
         }
     }

@@ -196,7 +196,7 @@ fn a_write_keeps_a_legal_value(rt: HostRuntime) {
 }
 
 #[test]
-#[tactic(auto, unfolding(crate::specs::Legal::keeps_value, crate::specs::Legal::slots, crate::specs::Legal::kept_slots))]
+#[tactic(auto, unfolding(crate::specs::Legal::keeps_value, crate::specs::Legal::is_kept_number, crate::specs::Legal::kept_numbers))]
 fn legal_values_of_plain_calls(rt: HostRuntime) {
     assert_eq!(rt; CsrFile::legal(MSTATUS, 0, ONES), 0xa_007e_19aa);
     assert_eq!(rt; CsrFile::legal(SATP, 7, 0xf000_0000_0000_0000), 7);
@@ -230,7 +230,7 @@ fn views_show_and_write_their_register(rt: HostRuntime) {
 }
 
 #[test]
-#[tactic(auto, unfolding(crate::specs::Numbers::is_listed, crate::specs::View::volatile_bits, crate::specs::Legal::keeps_value, crate::specs::Legal::slots, crate::specs::Legal::kept_slots))]
+#[tactic(auto, unfolding(crate::specs::Numbers::is_listed, crate::specs::View::volatile_bits, crate::specs::Legal::keeps_value, crate::specs::Legal::is_kept_number, crate::specs::Legal::kept_numbers))]
 fn live_bits_are_read_and_not_written_back(rt: HostRuntime) {
     let mut csrs = CsrFile::reset(0);
     csrs.set(MIDELEG, 0x222);
@@ -275,7 +275,7 @@ fn virtual_memory_is_trapped_from_supervisor_mode(rt: HostRuntime) {
 }
 
 #[test]
-#[tactic(auto, unfolding(crate::specs::Kept::reset_registers, crate::specs::Count::counted, crate::specs::Legal::keeps_value, crate::specs::Legal::slots, crate::specs::Legal::kept_slots))]
+#[tactic(auto, unfolding(crate::specs::Kept::reset_registers, crate::specs::Count::counted, crate::specs::Legal::keeps_value, crate::specs::Legal::is_kept_number, crate::specs::Legal::kept_numbers))]
 fn counters_count_but_not_what_the_step_wrote(rt: HostRuntime) {
     let mut csrs = CsrFile::reset(0);
     csrs.count(true, None);

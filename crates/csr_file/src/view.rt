@@ -1,9 +1,9 @@
 //! What instructions read of the registers, and what their writes leave.
-#![tactic(auto, unfolding(crate::specs::View::view, crate::specs::View::base, crate::specs::View::is_volatile_number, crate::specs::View::volatile_bits, crate::specs::Write::written))]
+#![tactic(auto, unfolding(crate::specs::View::view, crate::specs::View::base, crate::specs::View::is_volatile_number, crate::specs::View::volatile_bits, crate::specs::Write::changed_register, crate::specs::Write::asked_value, crate::specs::Write::written))]
 
 ghost use Rattle.std.specs.Prelude.{◌≡◌};
 ghost use Rattle.csr_file.specs.View.{base, is_volatile_number, view, volatile_bits};
-ghost use Rattle.csr_file.specs.Write.{merged, written};
+ghost use Rattle.csr_file.specs.Write.{asked_value, changed_register, merged, written};
 
 use crate::legal::legal_value;
 use crate::masks::{
@@ -18,7 +18,7 @@ use crate::registers::Registers;
 pub(crate) fn has_volatile_bits(num: u16) -> bool
     ensures { result ≡ is_volatile_number num }
 {
-    matches!(num, CYCLE | TIME | MCYCLE | MIP | SIP)
+    bits_given(num) != 0
 }
 
 /// The bits of register `num` that are read from a given word.
@@ -30,6 +30,18 @@ pub(crate) fn bits_given(num: u16) -> u64
         MIP => MIP_LIVE,
         SIP => SIP_LIVE,
         _ => 0,
+    }
+}
+
+/// The register that a write to register `num` may change.
+fn register_behind(num: u16) -> u16
+    ensures { result ≡ changed_register num }
+{
+    match num {
+        SSTATUS => MSTATUS,
+        SIE => MIE,
+        SIP => MIP,
+        _ => num,
     }
 }
 
@@ -46,12 +58,12 @@ impl Registers {
         ensures { result ≡ view self.now num given }
     {
         match num {
-            SSTATUS => self.mstatus & SSTATUS_READ,
-            SIE => self.mie & self.mideleg,
-            SIP => (self.mip | given) & self.mideleg,
-            MIP => self.mip | given,
+            SSTATUS => self.kept.mstatus & SSTATUS_READ,
+            SIE => self.kept.mie & self.kept.mideleg,
+            SIP => (self.kept.mip | given) & self.kept.mideleg,
+            MIP => self.kept.mip | given,
             CYCLE | TIME | MCYCLE => given,
-            INSTRET => self.minstret,
+            INSTRET => self.kept.minstret,
             MISA => MISA_VALUE,
             MHARTID => u64::from(self.hart),
             _ => self.kept(num),
@@ -63,9 +75,24 @@ impl Registers {
         ensures { result ≡ base self.now num given }
     {
         match num {
-            MIP => self.mip,
-            SIP => self.mip & self.mideleg,
+            MIP => self.kept.mip,
+            SIP => self.kept.mip & self.kept.mideleg,
             _ => self.view(num, given),
+        }
+    }
+
+    /// What a write of `v` to register `num` asks the register that it changes to keep.
+    fn asked(&self, num: u16, v: u64) -> u64
+        ensures { result ≡ asked_value num v self.now }
+    {
+        match num {
+            SSTATUS => merge(SSTATUS_BITS, self.kept.mstatus, v),
+            SIE => merge(self.kept.mideleg, self.kept.mie, v),
+            SIP => {
+                let delegated = self.kept.mideleg & SUPERVISOR_SOFTWARE;
+                merge(delegated, self.kept.mip, v)
+            }
+            _ => v,
         }
     }
 
@@ -73,23 +100,8 @@ impl Registers {
     pub(crate) fn write(&mut self, num: u16, v: u64)
         ensures { self.new ≡ written num v self.old }
     {
-        match num {
-            SSTATUS => {
-                let merged = merge(SSTATUS_BITS, self.mstatus, v);
-                self.mstatus = legal_value(MSTATUS, self.mstatus, merged);
-            }
-            SIE => {
-                let merged = merge(self.mideleg, self.mie, v);
-                self.mie = legal_value(MIE, self.mie, merged);
-            }
-            SIP => {
-                let merged = merge(self.mideleg & SUPERVISOR_SOFTWARE, self.mip, v);
-                self.mip = legal_value(MIP, self.mip, merged);
-            }
-            _ => {
-                let legal = legal_value(num, self.kept(num), v);
-                self.put(num, legal);
-            }
-        }
+        let changed = register_behind(num);
+        let legal = legal_value(changed, self.kept(changed), self.asked(num, v));
+        self.put(changed, legal);
     }
 }

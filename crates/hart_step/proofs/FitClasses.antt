@@ -21,13 +21,12 @@ use Rattle.hart_step.specs.declared.access.Extension.{Extension}
 use Rattle.hart_step.specs.declared.hart.Hart.{Hart}
 use Rattle.hart_step.specs.Allowed.{IsAllowed}
 use Rattle.hart_step.specs.Answers.{Given, Stores, Untouched}
-use Rattle.hart_step.specs.Effects.{CsrEffect, Effect, accesses, at_pc, branches, clears_csr, computes, computes_immediate, conditional_from, even_part, extended_by, gives, gives_loaded, given_word, goes_on, has_reserved, jumps, loads, multiplies, next_of, offset_by, passes, pc_after, raises, reserved_at, reserves, reserves_from, sets_csr, stores, stores_conditionally, stores_from, stores_if, updates, updates_from, with_csr, with_memory, with_stored, with_write, writes, writes_csr}
+use Rattle.hart_step.specs.Effects.{CsrEffect, Effect, Outcome, accesses, at_pc, branches, clears_csr, computes, computes_immediate, even_part, extended_by, given_word, gives, gives_loaded, goes_on, has_reserved, jumps, loads, multiplies, next_of, offset_by, passes, pc_after, reserved_at, reserves, sets_csr, stored, stores, stores_conditionally, stores_if, stores_in, updates, updates_at, with_csr, with_memory, with_stored, with_write, writes, writes_csr}
 use Rattle.hart_step.specs.Fit.{AreBytes, IsWellFormed}
 use Rattle.hart_step.specs.Harts.{is_in_debug, register}
 use Rattle.hart_step.specs.Laws.{IsListedAccess}
-use Rattle.hart_step.specs.Memory.{Exception, Loaded, MemoryState, data_address, from_device, from_memory, loaded, loaded_from, ram_address, rom_holds, rom_number}
-use Rattle.hart_step.specs.Shown.{Done}
-use Rattle.hart_step.proofs.FitHarts.{HartFits, IsPc, csr_fits, either_pc, moved, register_below, reserved_fits, same_hart, wrote}
+use Rattle.hart_step.specs.Memory.{◌>>=◌, answered, Exception, Loaded, MemoryState, data_address, from_device, from_memory, loaded, ram_address, rom_holds, rom_number}
+use Rattle.hart_step.proofs.FitHarts.{HartFits, IsPc, csr_fits, either_pc, moved, register_below, reserved_fits, wrote}
 use Rattle.hart_step.proofs.FitMemory.{IsAddress, ram_address_below, stored_bytes}
 use Rattle.hart_step.proofs.FitValues.{alu_below, either_below, given_below, modulo_below, mul_div_below, number_below, rom_number_below, view_below}
 use Rattle.hart_step.proofs.Parity.{even_offset}
@@ -41,6 +40,9 @@ pub record FitEffect (n : ℕ) (hart : Hart) (memory : MemoryState) (e : Effect)
   pub hart_fits : HartFits hart e.hart
   pub memory_fits : MemoryFits memory e.memory
   pub access : IsListedAccess n e.access
+
+abbrev pub FitOutcome : ℕ → Hart → MemoryState → Outcome → Type 0
+FitOutcome n hart memory outcome = IfOk outcome (FitEffect n hart memory)
 
 -- where an instruction whose word has len bytes begins
 pub record Stands (given : Given) (len : ℕ) (hart : Hart) (memory : MemoryState) : Type 0 where
@@ -73,12 +75,9 @@ even_part_fits at below = record { even = omega arith; below = omega arith }
 
 -- ---- instructions that ask nothing
 
-pub either_effect : (n : ℕ) (hart : Hart) (memory : MemoryState) (b : Bool) (x y : Effect) → FitEffect n hart memory x → FitEffect n hart memory y → FitEffect n hart memory (if b then x else y)
-either_effect n hart memory true x y first second = first
-either_effect n hart memory false x y first second = second
-
-pub raises_fit : (given : Given) (n len : ℕ) (hart : Hart) (memory : MemoryState) → Stands given len hart memory → (e : Exception) → FitEffect n hart memory (raises e hart memory)
-raises_fit given n len hart memory s e = record { hart_fits = same_hart hart s.formed; memory_fits = same_memory memory s.ram; access = tt }
+pub either_outcome : (n : ℕ) (hart : Hart) (memory : MemoryState) (b : Bool) (x y : Outcome) → FitOutcome n hart memory x → FitOutcome n hart memory y → FitOutcome n hart memory (if b then x else y)
+either_outcome n hart memory true x y first second = first
+either_outcome n hart memory false x y first second = second
 
 -- the hart went on as another
 pub goes_fit : (n : ℕ) (hart : Hart) (memory : MemoryState) → AreBytes memory.ram → (after : Hart) → HartFits hart after → FitEffect n hart memory (goes_on after memory)
@@ -138,7 +137,7 @@ load_cases given n at size device false true is_rom in_ram in_rom e is first sec
 load_cases given n at size device false false true in_ram in_rom e is first second = record { small = second; access = tt }
 load_cases given n at size device false false false in_ram in_rom e is first second = tt
 
-loaded_fits : (given : Given) (n len : ℕ) (hart : Hart) (memory : MemoryState) → Stands given len hart memory → (size va : ℕ) (a : Result ℕ Exception) → IfOk (loaded_from given n hart memory size va a) (IsLoaded n size)
+loaded_fits : (given : Given) (n len : ℕ) (hart : Hart) (memory : MemoryState) → Stands given len hart memory → (size va : ℕ) (a : Result ℕ Exception) → IfOk (a >>= answered given n hart memory size va) (IsLoaded n size)
 loaded_fits given n len hart memory s size va (Err e) = tt
 loaded_fits given n len hart memory s size va (Ok at) =
     load_cases given n at size (s.allowed.device at size) (has_part memory.ram at size) (is_listed n at size) (is_in_debug hart && rom_holds memory.rom at size) (number_at memory.ram at size) (rom_number memory.rom at size) _ refl
@@ -148,15 +147,15 @@ extended_below : (extension : Extension) (size value : ℕ) → 256 ^ size ≤ 2
 extended_below Extension.Signed size value most small = modulo_below _
 extended_below Extension.Unsigned size value most small = omega arith
 
-gives_loaded_fit : (given : Given) (n len : ℕ) (hart : Hart) (memory : MemoryState) → Stands given len hart memory → (size : ℕ) → 256 ^ size ≤ 2 ^ 64 → (extension : Extension) (rd : ℕ) (l : Result Loaded Exception) → IfOk l (IsLoaded n size) → FitEffect n hart memory (gives_loaded size extension len rd hart memory l)
-gives_loaded_fit given n len hart memory s size most extension rd (Err e) is = raises_fit given n len hart memory s e
+gives_loaded_fit : (given : Given) (n len : ℕ) (hart : Hart) (memory : MemoryState) → Stands given len hart memory → (size : ℕ) → 256 ^ size ≤ 2 ^ 64 → (extension : Extension) (rd : ℕ) (l : Result Loaded Exception) → IfOk l (IsLoaded n size) → FitOutcome n hart memory (l >>= λ x. Ok (gives_loaded extension size len rd hart memory x))
+gives_loaded_fit given n len hart memory s size most extension rd (Err e) is = tt
 gives_loaded_fit given n len hart memory s size most extension rd (Ok l) is = record {
   hart_fits = wrote hart rd (extended_by extension size l.value) (pc_after hart len) s.formed (extended_below extension size l.value most is.small) (after_fits hart len s.formed s.len_even);
   memory_fits = same_memory memory s.ram;
   access = is.access;
 }
 
-pub loads_fit : (given : Given) (n len : ℕ) (hart : Hart) (memory : MemoryState) → Stands given len hart memory → (size : ℕ) → 256 ^ size ≤ 2 ^ 64 → (extension : Extension) (rd rs1 : ℕ) (imm : ℤ) → FitEffect n hart memory (loads given n size extension len rd rs1 imm hart memory)
+pub loads_fit : (given : Given) (n len : ℕ) (hart : Hart) (memory : MemoryState) → Stands given len hart memory → (size : ℕ) → 256 ^ size ≤ 2 ^ 64 → (extension : Extension) (rd rs1 : ℕ) (imm : ℤ) → FitOutcome n hart memory (loads given n size extension len rd rs1 imm hart memory)
 loads_fit given n len hart memory s size most extension rd rs1 imm =
     let va : ℕ = offset_by (register hart rs1) imm in
     gives_loaded_fit given n len hart memory s size most extension rd (loaded given n hart memory size va)
@@ -164,25 +163,25 @@ loads_fit given n len hart memory s size most extension rd rs1 imm =
 
 -- ---- stores
 
-store_cases : (given : Given) (n len : ℕ) (hart : Hart) (memory : MemoryState) → Stands given len hart memory → (at size value : ℕ) (is_ram is_device : Bool) (shown : Result Done Exception) (e : Exception) → is_listed n at size ≡ is_device → FitEffect n hart memory (if is_ram then record { hart = at_pc hart (pc_after hart len); memory = with_stored memory at size value; shown = shown; access = Untouched } else if is_device then record { hart = at_pc hart (pc_after hart len); memory = memory; shown = shown; access = Stores at size (low_bytes size value) } else raises e hart memory)
-store_cases given n len hart memory s at size value true is_device shown e is = record {
+stored_fit : (given : Given) (n len : ℕ) (hart : Hart) (memory : MemoryState) → Stands given len hart memory → (at size value : ℕ) (is_ram is_device : Bool) (e : Exception) → is_listed n at size ≡ is_device → FitOutcome n hart memory (if is_ram then Ok (stored at size value len hart (with_stored memory at size value) Untouched) else if is_device then Ok (stored at size value len hart memory (Stores at size (low_bytes size value))) else Err e)
+stored_fit given n len hart memory s at size value true is_device e is = record {
   hart_fits = moved hart (pc_after hart len) s.formed (after_fits hart len s.formed s.len_even);
   memory_fits = stored_fits memory at size value s.ram;
   access = tt;
 }
-store_cases given n len hart memory s at size value false true shown e is = record {
+stored_fit given n len hart memory s at size value false true e is = record {
   hart_fits = moved hart (pc_after hart len) s.formed (after_fits hart len s.formed s.len_even);
   memory_fits = same_memory memory s.ram;
   access = (is, bytes_fit size value);
 }
-store_cases given n len hart memory s at size value false false shown e is = raises_fit given n len hart memory s e
+stored_fit given n len hart memory s at size value false false e is = tt
 
-stored_from : (given : Given) (n len : ℕ) (hart : Hart) (memory : MemoryState) → Stands given len hart memory → (size value va : ℕ) (a : Result ℕ Exception) → FitEffect n hart memory (stores_from n size value len va a hart memory)
-stored_from given n len hart memory s size value va (Err e) = raises_fit given n len hart memory s e
+stored_from : (given : Given) (n len : ℕ) (hart : Hart) (memory : MemoryState) → Stands given len hart memory → (size value va : ℕ) (a : Result ℕ Exception) → FitOutcome n hart memory (a >>= λ at. stores_in n size value len va at hart memory)
+stored_from given n len hart memory s size value va (Err e) = tt
 stored_from given n len hart memory s size value va (Ok at) =
-    store_cases given n len hart memory s at size value (has_part memory.ram at size) (is_listed n at size) _ _ refl
+    stored_fit given n len hart memory s at size value (has_part memory.ram at size) (is_listed n at size) _ refl
 
-pub stores_fit : (given : Given) (n len : ℕ) (hart : Hart) (memory : MemoryState) → Stands given len hart memory → (size rs1 rs2 : ℕ) (imm : ℤ) → FitEffect n hart memory (stores n size len rs1 rs2 imm hart memory)
+pub stores_fit : (given : Given) (n len : ℕ) (hart : Hart) (memory : MemoryState) → Stands given len hart memory → (size rs1 rs2 : ℕ) (imm : ℤ) → FitOutcome n hart memory (stores n size len rs1 rs2 imm hart memory)
 stores_fit given n len hart memory s size rs1 rs2 imm =
     let va : ℕ = offset_by (register hart rs1) imm in
     stored_from given n len hart memory s size (register hart rs2) va (data_address Kind.Store size hart memory.ram va)
@@ -196,15 +195,15 @@ written_after given n len hart memory s r aligned below rd value small =
     let fits : HartFits before (with_write before rd value (pc_after hart len)) = wrote before rd value (pc_after hart len) (reserved_fits hart r s.formed aligned below) small (after_fits hart len s.formed s.len_even) in
     record { formed = fits.formed; number = fits.number; outside = fits.outside }
 
-reserved_from : (given : Given) (n len : ℕ) (hart : Hart) (memory : MemoryState) → Stands given len hart memory → (size rd : ℕ) (a : Result ℕ Exception) → IsAddress a → FitEffect n hart memory (reserves_from size len rd a hart memory)
-reserved_from given n len hart memory s size rd (Err e) below = raises_fit given n len hart memory s e
+reserved_from : (given : Given) (n len : ℕ) (hart : Hart) (memory : MemoryState) → Stands given len hart memory → (size rd : ℕ) (a : Result ℕ Exception) → IsAddress a → FitOutcome n hart memory (a >>= λ at. Ok (gives (extended_by Extension.Signed size (number_at memory.ram at size)) len rd (record hart { reservation = Some (reserved_at at) }) memory))
+reserved_from given n len hart memory s size rd (Err e) below = tt
 reserved_from given n len hart memory s size rd (Ok at) below = record {
   hart_fits = written_after given n len hart memory s (Some (reserved_at at)) (omega arith) (omega arith) rd _ (modulo_below _);
   memory_fits = same_memory memory s.ram;
   access = tt;
 }
 
-pub reserves_fit : (given : Given) (n len : ℕ) (hart : Hart) (memory : MemoryState) → Stands given len hart memory → (size rd rs1 : ℕ) → FitEffect n hart memory (reserves size len rd rs1 hart memory)
+pub reserves_fit : (given : Given) (n len : ℕ) (hart : Hart) (memory : MemoryState) → Stands given len hart memory → (size rd rs1 : ℕ) → FitOutcome n hart memory (reserves size len rd rs1 hart memory)
 reserves_fit given n len hart memory s size rd rs1 =
     reserved_from given n len hart memory s size rd (ram_address Kind.Load size hart memory.ram (register hart rs1)) (ram_address_below Kind.Load size hart memory.ram (register hart rs1) (register_below hart rs1 s.formed))
 
@@ -220,23 +219,23 @@ conditional_cases given n len hart memory s false size value rd at = record {
   access = tt;
 }
 
-conditional_by : (given : Given) (n len : ℕ) (hart : Hart) (memory : MemoryState) → Stands given len hart memory → (size value rd : ℕ) (a : Result ℕ Exception) → FitEffect n hart memory (conditional_from given size value len rd a hart memory)
-conditional_by given n len hart memory s size value rd (Err e) = raises_fit given n len hart memory s e
+conditional_by : (given : Given) (n len : ℕ) (hart : Hart) (memory : MemoryState) → Stands given len hart memory → (size value rd : ℕ) (a : Result ℕ Exception) → FitOutcome n hart memory (a >>= λ at. Ok (stores_if (has_reserved hart.reservation at && given.may_win) size value len rd at hart memory))
+conditional_by given n len hart memory s size value rd (Err e) = tt
 conditional_by given n len hart memory s size value rd (Ok at) = conditional_cases given n len hart memory s (has_reserved hart.reservation at && given.may_win) size value rd at
 
-pub conditional_fits : (given : Given) (n len : ℕ) (hart : Hart) (memory : MemoryState) → Stands given len hart memory → (size rd rs1 rs2 : ℕ) → FitEffect n hart memory (stores_conditionally given size len rd rs1 rs2 hart memory)
+pub conditional_fits : (given : Given) (n len : ℕ) (hart : Hart) (memory : MemoryState) → Stands given len hart memory → (size rd rs1 rs2 : ℕ) → FitOutcome n hart memory (stores_conditionally given size len rd rs1 rs2 hart memory)
 conditional_fits given n len hart memory s size rd rs1 rs2 =
     conditional_by given n len hart memory s size (register hart rs2) rd (ram_address Kind.Store size hart memory.ram (register hart rs1))
 
-updated_from : (given : Given) (n len : ℕ) (hart : Hart) (memory : MemoryState) → Stands given len hart memory → (op : AmoOp) (size value rd : ℕ) (a : Result ℕ Exception) → FitEffect n hart memory (updates_from op size value len rd a hart memory)
-updated_from given n len hart memory s op size value rd (Err e) = raises_fit given n len hart memory s e
+updated_from : (given : Given) (n len : ℕ) (hart : Hart) (memory : MemoryState) → Stands given len hart memory → (op : AmoOp) (size value rd : ℕ) (a : Result ℕ Exception) → FitOutcome n hart memory (a >>= λ at. Ok (updates_at op size value len rd at (number_at memory.ram at size) hart memory))
+updated_from given n len hart memory s op size value rd (Err e) = tt
 updated_from given n len hart memory s op size value rd (Ok at) = record {
   hart_fits = wrote hart rd _ (pc_after hart len) s.formed (modulo_below _) (after_fits hart len s.formed s.len_even);
   memory_fits = stored_fits memory at size _ s.ram;
   access = tt;
 }
 
-pub updates_fit : (given : Given) (n len : ℕ) (hart : Hart) (memory : MemoryState) → Stands given len hart memory → (op : AmoOp) (size rd rs1 rs2 : ℕ) → FitEffect n hart memory (updates op size len rd rs1 rs2 hart memory)
+pub updates_fit : (given : Given) (n len : ℕ) (hart : Hart) (memory : MemoryState) → Stands given len hart memory → (op : AmoOp) (size rd rs1 rs2 : ℕ) → FitOutcome n hart memory (updates op size len rd rs1 rs2 hart memory)
 updates_fit given n len hart memory s op size rd rs1 rs2 =
     updated_from given n len hart memory s op size (register hart rs2) rd (ram_address Kind.Store size hart memory.ram (register hart rs1))
 
@@ -246,26 +245,26 @@ word_below : (given : Given) (len : ℕ) (hart : Hart) (memory : MemoryState) �
 word_below given len hart memory s reads number =
     either_below (reads && is_volatile_number number) (given.volatile number) 0 (given_below number (given.volatile number) (s.allowed.volatile number)) (lit< tt)
 
-csr_effect : (n : ℕ) (hart : Hart) (memory : MemoryState) → AreBytes memory.ram → (b : Bool) (x y : CsrEffect) → HartFits hart x.hart → HartFits hart y.hart → FitEffect n hart memory (with_memory (if b then x else y) memory)
-csr_effect n hart memory are true x y first second = record { hart_fits = first; memory_fits = same_memory memory are; access = tt }
-csr_effect n hart memory are false x y first second = record { hart_fits = second; memory_fits = same_memory memory are; access = tt }
+csr_effect : (n : ℕ) (hart : Hart) (memory : MemoryState) → AreBytes memory.ram → (b : Bool) (e : CsrEffect) (x : Exception) → HartFits hart e.hart → FitOutcome n hart memory (with_memory (if b then Ok e else Err x) memory)
+csr_effect n hart memory are true e x fits = record { hart_fits = fits; memory_fits = same_memory memory are; access = tt }
+csr_effect n hart memory are false e x fits = tt
 
-accesses_fit : (given : Given) (n len : ℕ) (hart : Hart) (memory : MemoryState) → Stands given len hart memory → (word rd number : ℕ) (reads is_written : Bool) (seen value : ℕ) → seen < 2 ^ 64 → FitEffect n hart memory (with_memory (accesses len word rd number reads is_written seen value hart) memory)
+accesses_fit : (given : Given) (n len : ℕ) (hart : Hart) (memory : MemoryState) → Stands given len hart memory → (word rd number : ℕ) (reads is_written : Bool) (seen value : ℕ) → seen < 2 ^ 64 → FitOutcome n hart memory (with_memory (accesses len word rd number reads is_written seen value hart) memory)
 accesses_fit given n len hart memory s word rd number reads is_written seen value small =
     let before : Hart = record hart { csrs = with_csr is_written number value hart.csrs } in
     let changed : HartFits hart before = csr_fits is_written number value hart s.formed in
     let fits : HartFits before (with_write before rd (view hart.csrs number seen) (pc_after hart len)) = wrote before rd (view hart.csrs number seen) (pc_after hart len) changed.formed (view_below hart.csrs number seen s.formed.registers small) (after_fits hart len s.formed s.len_even) in
     csr_effect n hart memory s.ram (may_access hart.csrs hart.mode number is_written) _ _
-    (record { formed = fits.formed; number = fits.number ∙ changed.number; outside = λ out. fits.outside (changed.outside out) }) (same_hart hart s.formed)
+    (record { formed = fits.formed; number = fits.number ∙ changed.number; outside = λ out. fits.outside (changed.outside out) })
 
-pub writes_csr_fit : (given : Given) (n len : ℕ) (hart : Hart) (memory : MemoryState) → Stands given len hart memory → (word rd number value : ℕ) → FitEffect n hart memory (with_memory (writes_csr given len word rd number value hart) memory)
+pub writes_csr_fit : (given : Given) (n len : ℕ) (hart : Hart) (memory : MemoryState) → Stands given len hart memory → (word rd number value : ℕ) → FitOutcome n hart memory (with_memory (writes_csr given len word rd number value hart) memory)
 writes_csr_fit given n len hart memory s word rd number value =
     accesses_fit given n len hart memory s word rd number (not (rd == 0)) true (given_word given (not (rd == 0)) number) value (word_below given len hart memory s (not (rd == 0)) number)
 
-pub sets_csr_fit : (given : Given) (n len : ℕ) (hart : Hart) (memory : MemoryState) → Stands given len hart memory → (word rd number : ℕ) (is_written : Bool) (value : ℕ) → FitEffect n hart memory (with_memory (sets_csr given len word rd number is_written value hart) memory)
+pub sets_csr_fit : (given : Given) (n len : ℕ) (hart : Hart) (memory : MemoryState) → Stands given len hart memory → (word rd number : ℕ) (is_written : Bool) (value : ℕ) → FitOutcome n hart memory (with_memory (sets_csr given len word rd number is_written value hart) memory)
 sets_csr_fit given n len hart memory s word rd number is_written value =
     accesses_fit given n len hart memory s word rd number true is_written (given_word given true number) (bit_or (base hart.csrs number (given_word given true number)) value) (word_below given len hart memory s true number)
 
-pub clears_csr_fit : (given : Given) (n len : ℕ) (hart : Hart) (memory : MemoryState) → Stands given len hart memory → (word rd number : ℕ) (is_written : Bool) (value : ℕ) → FitEffect n hart memory (with_memory (clears_csr given len word rd number is_written value hart) memory)
+pub clears_csr_fit : (given : Given) (n len : ℕ) (hart : Hart) (memory : MemoryState) → Stands given len hart memory → (word rd number : ℕ) (is_written : Bool) (value : ℕ) → FitOutcome n hart memory (with_memory (clears_csr given len word rd number is_written value hart) memory)
 clears_csr_fit given n len hart memory s word rd number is_written value =
     accesses_fit given n len hart memory s word rd number true is_written (given_word given true number) (bit_and (base hart.csrs number (given_word given true number)) (all_bits - value)) (word_below given len hart memory s true number)

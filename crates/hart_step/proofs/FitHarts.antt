@@ -8,6 +8,8 @@ use Rattle.rv_alu.specs.declared.Mode.{Mode}
 use Rattle.device_rows.proofs.Places.{at_place}
 use Rattle.csr_file.specs.Count.{counted}
 use Rattle.csr_file.specs.Kept as registers
+use Rattle.csr_file.specs.Kept.{debug_kept, kept_in}
+use Rattle.csr_file.specs.Legal.{IsLegal, is_kept_number, kept_numbers}
 use Rattle.csr_file.specs.Numbers.{csr_dpc, csr_mepc, csr_mtvec, csr_sepc, csr_stvec}
 use Rattle.csr_file.specs.Write.{written}
 use Rattle.csr_file.specs.declared.registers.DebugRegs.{DebugRegs}
@@ -134,7 +136,7 @@ supervisor_returned_fit r fit = written-fit _ _ r fit
 
 debug_returned_fit : (r : Registers) → registers.IsFit r → registers.IsFit (debug_returned r)
 unfolding debug_returned
-debug_returned_fit r fit = let none : (d : DebugRegs) → None ≡ Some d → registers.IsDebugFit d = λ d is. absurd (cc) in assumption (fit, none)
+debug_returned_fit r fit = record { hart = fit.hart; kept = fit.kept; debug = λ d is. absurd (cc) }
 
 machine_returned_outside : (r : Registers) → IsNone r.debug → IsNone (machine_returned r).debug
 unfolding machine_returned
@@ -148,19 +150,22 @@ debug_returned_outside : (r : Registers) → IsNone r.debug → IsNone (debug_re
 unfolding debug_returned
 debug_returned_outside r out = refl
 
-pub machine_returns : (mode : Mode) (hart : Hart) → IsWellFormed hart → HartFits hart (resumed (machine_returned hart.csrs) mode hart.csrs.mepc hart)
+pub machine_returns : (mode : Mode) (hart : Hart) → IsWellFormed hart → HartFits hart (resumed (machine_returned hart.csrs) mode hart.csrs.kept.mepc hart)
+unfolding kept_in is_kept_number kept_numbers
 machine_returns mode hart formed =
-    resumed_fits (machine_returned hart.csrs) mode hart.csrs.mepc hart formed (machine_returned_fit hart.csrs formed.registers) (machine_returned_number hart.csrs) (machine_returned_outside hart.csrs)
-    (record { even = mepc-even hart.csrs.mepc formed.registers.mepc; below = IsLegal-below csr_mepc hart.csrs.mepc formed.registers.mepc })
+    resumed_fits (machine_returned hart.csrs) mode hart.csrs.kept.mepc hart formed (machine_returned_fit hart.csrs formed.registers) (machine_returned_number hart.csrs) (machine_returned_outside hart.csrs)
+    (record { even = mepc-even hart.csrs.kept.mepc (formed.registers.kept csr_mepc refl); below = IsLegal-below csr_mepc hart.csrs.kept.mepc (formed.registers.kept csr_mepc refl) })
 
-pub supervisor_returns : (mode : Mode) (hart : Hart) → IsWellFormed hart → HartFits hart (resumed (supervisor_returned hart.csrs) mode hart.csrs.sepc hart)
+pub supervisor_returns : (mode : Mode) (hart : Hart) → IsWellFormed hart → HartFits hart (resumed (supervisor_returned hart.csrs) mode hart.csrs.kept.sepc hart)
+unfolding kept_in is_kept_number kept_numbers
 supervisor_returns mode hart formed =
-    resumed_fits (supervisor_returned hart.csrs) mode hart.csrs.sepc hart formed (supervisor_returned_fit hart.csrs formed.registers) (supervisor_returned_number hart.csrs) (supervisor_returned_outside hart.csrs)
-    (record { even = sepc-even hart.csrs.sepc formed.registers.sepc; below = IsLegal-below csr_sepc hart.csrs.sepc formed.registers.sepc })
+    resumed_fits (supervisor_returned hart.csrs) mode hart.csrs.kept.sepc hart formed (supervisor_returned_fit hart.csrs formed.registers) (supervisor_returned_number hart.csrs) (supervisor_returned_outside hart.csrs)
+    (record { even = sepc-even hart.csrs.kept.sepc (formed.registers.kept csr_sepc refl); below = IsLegal-below csr_sepc hart.csrs.kept.sepc (formed.registers.kept csr_sepc refl) })
 
 debug_pc : (o : Option DebugRegs) → ((d : DebugRegs) → o ≡ Some d → registers.IsDebugFit d) → IsPc (resumed_pc o)
+unfolding debug_kept
 debug_pc None fit = record { even = refl; below = lit< tt }
-debug_pc (Some d) fit = let kept = fit d refl in record { even = dpc-even d.dpc kept.dpc; below = IsLegal-below csr_dpc d.dpc kept.dpc }
+debug_pc (Some d) fit = let kept : IsLegal csr_dpc d.dpc = fit d refl csr_dpc refl in record { even = dpc-even d.dpc kept; below = IsLegal-below csr_dpc d.dpc kept }
 
 pub debug_returns : (mode : Mode) (hart : Hart) → IsWellFormed hart → HartFits hart (resumed (debug_returned hart.csrs) mode (resumed_pc hart.csrs.debug) hart)
 debug_returns mode hart formed =
@@ -203,10 +208,11 @@ handler_fits vector (Cause.Interrupt n) below =
     either_pc (vector % 2 ^ 2 == 1) _ _ (record { even = omega arith; below = omega arith }) (record { even = omega arith; below = omega arith })
 
 pub enters_fits : (cause : Cause) (tval : ℕ) (hart : Hart) → IsWellFormed hart → HartFits hart (enters cause tval hart)
+unfolding kept_in is_kept_number kept_numbers
 enters_fits cause tval hart formed =
     let r : Registers = entered hart.mode cause tval hart.pc hart.csrs in
     let fit : registers.IsFit r = entered_fit hart.mode cause tval hart.pc hart.csrs formed.registers in
     resumed_fits (counted false None r) _ (handler_pc hart.csrs hart.mode cause) hart formed (counted-fit false None r fit)
     (counted_number false None r ∙ entered_number hart.mode cause tval hart.pc hart.csrs)
     (λ out. counted_outside false None r (entered_outside hart.mode cause tval hart.pc hart.csrs out))
-    (handler_fits _ cause (either_below (goes_to_supervisor hart.csrs hart.mode cause) _ _ (IsLegal-below csr_stvec hart.csrs.stvec formed.registers.stvec) (IsLegal-below csr_mtvec hart.csrs.mtvec formed.registers.mtvec)))
+    (handler_fits _ cause (either_below (goes_to_supervisor hart.csrs hart.mode cause) _ _ (IsLegal-below csr_stvec hart.csrs.kept.stvec (formed.registers.kept csr_stvec refl)) (IsLegal-below csr_mtvec hart.csrs.kept.mtvec (formed.registers.kept csr_mtvec refl))))

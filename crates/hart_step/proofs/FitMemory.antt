@@ -13,7 +13,7 @@ use Rattle.sv39_walk.specs.declared.Kind.{Kind}
 use Rattle.sv39_walk.specs.declared.WalkFault.{WalkFault}
 use Rattle.hart_step.specs.declared.hart.Hart.{Hart}
 use Rattle.hart_step.specs.Fit.{AreBytes}
-use Rattle.hart_step.specs.Memory.{Exception, data_address, data_mode, physical, physical_from, ram_address, ram_address_from}
+use Rattle.hart_step.specs.Memory.{Exception, data_address, data_mode, or_exception, physical, ram_address, ◌>>=◌}
 
 -- ---- stores
 
@@ -68,18 +68,18 @@ translated_below ram satp mode sum mxr kind va below =
     either_address (is_untranslated satp mode) (Ok va) _ below (
     either_address (is_canonical va) _ (Err WalkFault.Page) (walked_below ram mode sum mxr kind va 3 (root_of satp) (lit≤ tt)) tt)
 
-from_walk : (kind : Kind) (va : ℕ) (r : Result ℕ WalkFault) → IsAddress r → IsAddress (physical_from kind va r)
+from_walk : (kind : Kind) (va : ℕ) (r : Result ℕ WalkFault) → IsAddress r → IsAddress (or_exception kind va r)
 from_walk kind va (Ok at) below = below
 from_walk kind va (Err fault) below = tt
 
 data_address_below : (kind : Kind) (size : ℕ) (hart : Hart) (ram : List ℕ) (va : ℕ) → va < 2 ^ 64 → IsAddress (data_address kind size hart ram va)
 data_address_below kind size hart ram va below =
     either_address (va % size == 0) (physical (data_mode hart) kind hart ram va) _
-    (from_walk kind va _ (translated_below ram hart.csrs.satp (data_mode hart) _ _ kind va below)) tt
+    (from_walk kind va _ (translated_below ram hart.csrs.kept.satp (data_mode hart) _ _ kind va below)) tt
 
-in_ram : (kind : Kind) (ram : List ℕ) (size va : ℕ) (r : Result ℕ Exception) → IsAddress r → IsAddress (ram_address_from kind ram size va r)
-in_ram kind ram size va (Ok at) below = either_address (has_part ram at size) (Ok at) _ below tt
-in_ram kind ram size va (Err e) below = tt
+in_ram : (ram : List ℕ) (size : ℕ) (e : Exception) (r : Result ℕ Exception) → IsAddress r → IsAddress (r >>= λ at. if has_part ram at size then Ok at else Err e)
+in_ram ram size e (Ok at) below = either_address (has_part ram at size) (Ok at) (Err e) below tt
+in_ram ram size e (Err x) below = tt
 
 pub ram_address_below : (kind : Kind) (size : ℕ) (hart : Hart) (ram : List ℕ) (va : ℕ) → va < 2 ^ 64 → IsAddress (ram_address kind size hart ram va)
-ram_address_below kind size hart ram va below = in_ram kind ram size va (data_address kind size hart ram va) (data_address_below kind size hart ram va below)
+ram_address_below kind size hart ram va below = in_ram ram size _ (data_address kind size hart ram va) (data_address_below kind size hart ram va below)

@@ -1,5 +1,5 @@
 -- What every step keeps, of a hart and of its core, and what is done to a core beside its steps.
-use Rattle.std.proofs.Common.{◌≡◌, ◌⊎◌, inl, inr, ℕ, zero, suc, ◌%◌, ◌^◌, ◌<◌, ◌≤◌, ◌==◌, ◌&&◌, not, Bool, true, false, if◌then◌else◌, List, [], ◌∷◌, All, length, map, set, get_or, is_some, Option, Some, None, IfSome, refl, sym, subst, ap, ◌∙◌, arith, lit<}
+use Rattle.std.proofs.Common.{◌≡◌, ◌⊎◌, inl, inr, ℕ, zero, suc, ◌+◌, ◌*◌, ◌%◌, ◌^◌, ◌<◌, ◌≤◌, ◌==◌, ◌&&◌, not, Bool, true, false, if◌then◌else◌, List, [], ◌∷◌, All, length, map, set, get_or, is_some, Option, Some, None, IfSome, refl, sym, subst, ap, ◌∙◌, arith, lit<}
 use Rattle.std.specs.Prelude.{Result, Ok, Err, IfOk}
 use Rattle.std.specs.List.{list_any}
 use Rattle.std.proofs.lemmas.List.{length-map}
@@ -15,15 +15,14 @@ use Rattle.hart_step.specs.declared.hart.Hart.{Hart}
 use Rattle.hart_step.specs.Allowed.{IsAllowed}
 use Rattle.hart_step.specs.Answers.{Given}
 use Rattle.hart_step.specs.DebugReset.{debug_core, debug_harts, reset_debug_hart}
-use Rattle.hart_step.specs.Effects.{Effect, raises}
+use Rattle.hart_step.specs.Effects.{Effect, Outcome, effect}
 use Rattle.hart_step.specs.Fit.{AreBytes, IsFit, IsWellFormed}
 use Rattle.hart_step.specs.Harts.{CoreState, hart_of, is_in_debug, reset_core, reset_hart, reset_harts}
 use Rattle.hart_step.specs.Laws.{DebugResetIsFit, HostStaysFit, IsListedAccess, ResetIsFit, StepStaysFit, StepsStayFit, UnreservedStaysFit}
-use Rattle.hart_step.specs.Memory.{Exception, MemoryState, exception}
-use Rattle.hart_step.specs.Shown.{Done}
-use Rattle.hart_step.specs.Step.{Fetched, HartAnswer, after_store, commits, core_after, decoded, fetched, from_decoded, from_fetched, from_interrupt, hart_step, host_cleared, memory_of, parcel, retired, rom_after, step, stored_by, traps, unreserved, unreserved_hart, with_high, with_low, without_reservation}
+use Rattle.hart_step.specs.Memory.{◌>>=◌, Exception, MemoryState}
+use Rattle.hart_step.specs.Step.{Fetched, HartAnswer, after_store, carried_out, commits, completed, core_after, decoded, fetched, hart_step, host_cleared, memory_of, or_illegal, or_raises, parcel, raises, retired, rom_after, step, step_after, traps, unreserved, unreserved_hart, without_reservation}
 use Rattle.hart_step.proofs.DebugResets.{kept_debug}
-use Rattle.hart_step.proofs.FitClasses.{FitEffect, MemoryFits, Stands, raises_fit, same_memory}
+use Rattle.hart_step.proofs.FitClasses.{FitEffect, FitOutcome, MemoryFits, Stands, same_memory}
 use Rattle.hart_step.proofs.FitEffects.{effect_fits}
 use Rattle.hart_step.proofs.FitHarts.{HartFits, counted_fits, enters_fits, same_hart}
 use Rattle.hart_step.proofs.FitMemory.{stored_bytes}
@@ -52,21 +51,23 @@ either_hart false hart x y first second = second
 traps_fit : (e : Exception) (hart : Hart) → IsWellFormed hart → HartFits hart (traps e hart)
 traps_fit e hart formed = either_hart (is_in_debug hart) hart hart _ (same_hart hart formed) (enters_fits (Cause.Exception e.cause) e.tval hart formed)
 
-commits_fit : (n h : ℕ) (before : Hart) (memory : MemoryState) (word : ℕ) (e : Effect) → FitEffect n before memory e → (shown : Result Done Exception) → FitAnswer n before memory (commits h before word e shown)
-commits_fit n h before memory word e fits (Ok done) = record {
-  hart_fits = fits_on before e.hart _ fits.hart_fits (retired_fits (is_in_debug before) done.wrote e.hart fits.hart_fits.formed);
-  memory_fits = fits.memory_fits;
-  access = fits.access;
-}
-commits_fit n h before memory word e fits (Err x) = record {
-  hart_fits = fits_on before e.hart _ fits.hart_fits (traps_fit x e.hart fits.hart_fits.formed);
+commits_fit : (n h : ℕ) (before : Hart) (memory : MemoryState) (word : ℕ) (e : Effect) → FitEffect n before memory e → FitAnswer n before memory (commits h before word e)
+commits_fit n h before memory word e fits = record {
+  hart_fits = fits_on before e.hart _ fits.hart_fits (retired_fits (is_in_debug before) e.done.wrote e.hart fits.hart_fits.formed);
   memory_fits = fits.memory_fits;
   access = fits.access;
 }
 
-decoded_fits : (given : Given) (n len word : ℕ) (hart : Hart) (memory : MemoryState) → Stands given len hart memory → (o : Option Insn) → IfSome o HasEvenOffset → FitEffect n hart memory (from_decoded given n len word hart memory o)
-decoded_fits given n len word hart memory s None even = raises_fit given n len hart memory s (exception 2 word)
-decoded_fits given n len word hart memory s (Some insn) even = effect_fits given n len word insn hart memory s even
+raises_fit : (n h : ℕ) (hart : Hart) (memory : MemoryState) (x : Exception) → IsWellFormed hart → AreBytes memory.ram → FitAnswer n hart memory (raises h hart memory x)
+raises_fit n h hart memory x formed ram = record { hart_fits = traps_fit x hart formed; memory_fits = same_memory memory ram; access = tt }
+
+outcome_fits : (n h : ℕ) (hart : Hart) (memory : MemoryState) (word : ℕ) (outcome : Outcome) → FitOutcome n hart memory outcome → IfOk (outcome >>= λ e. Ok (commits h hart word e)) (FitAnswer n hart memory)
+outcome_fits n h hart memory word (Ok e) fits = commits_fit n h hart memory word e fits
+outcome_fits n h hart memory word (Err x) fits = tt
+
+decoded_fits : (given : Given) (n h : ℕ) (hart : Hart) (memory : MemoryState) (f : Fetched) → Stands given f.len hart memory → (o : Option Insn) → IfSome o HasEvenOffset → IfOk (or_illegal f.word o >>= λ insn. effect (record { given = given; harts = n; word = f.word; len = f.len }) insn hart memory >>= λ e. Ok (commits h hart f.word e)) (FitAnswer n hart memory)
+decoded_fits given n h hart memory f s None even = tt
+decoded_fits given n h hart memory f s (Some insn) even = outcome_fits n h hart memory f.word _ (effect_fits (record { given = given; harts = n; word = f.word; len = f.len }) insn hart memory s even)
 
 -- what is fetched has an even length
 abbrev HasEvenLength : Result Fetched Exception → Type 0
@@ -76,30 +77,32 @@ either_even : (b : Bool) (x y : Result Fetched Exception) → HasEvenLength x �
 either_even true x y first second = first
 either_even false x y first second = second
 
-high_even : (low : ℕ) (r : Result ℕ Exception) → HasEvenLength (with_high low r)
+high_even : (low : ℕ) (r : Result ℕ Exception) → HasEvenLength (r >>= λ high. Ok (record { word = low + 0x10000 * high; len = 4 }))
 high_even low (Ok high) = refl
 high_even low (Err e) = tt
 
-low_even : (hart : Hart) (memory : MemoryState) (r : Result ℕ Exception) → HasEvenLength (with_low hart memory r)
+low_even : (hart : Hart) (memory : MemoryState) (r : Result ℕ Exception) → HasEvenLength (r >>= completed hart memory)
 low_even hart memory (Ok low) = either_even (low % 4 == 3) _ (Ok (record { word = low; len = 2 })) (high_even low _) refl
 low_even hart memory (Err e) = tt
 
-fetched_fits : (given : Given) (n h : ℕ) (hart : Hart) (memory : MemoryState) → IsWellFormed hart → AreBytes memory.ram → AreBytes memory.rom → IsAllowed hart given → (r : Result Fetched Exception) → HasEvenLength r → FitAnswer n hart memory (from_fetched given n h hart memory r)
-fetched_fits given n h hart memory formed ram rom allowed (Err e) even =
-    commits_fit n h hart memory 0 (raises e hart memory) (record { hart_fits = same_hart hart formed; memory_fits = same_memory memory ram; access = tt }) (Err e)
+fetched_fits : (given : Given) (n h : ℕ) (hart : Hart) (memory : MemoryState) → IsWellFormed hart → AreBytes memory.ram → AreBytes memory.rom → IsAllowed hart given → (r : Result Fetched Exception) → HasEvenLength r → IfOk (r >>= carried_out given n h hart memory) (FitAnswer n hart memory)
+fetched_fits given n h hart memory formed ram rom allowed (Err e) even = tt
 fetched_fits given n h hart memory formed ram rom allowed (Ok f) even =
-    let s : Stands given f.len hart memory = record { formed = formed; ram = ram; rom = rom; allowed = allowed; len_even = even } in
-    let e : Effect = from_decoded given n f.len f.word hart memory (decoded f.word f.len) in
-    commits_fit n h hart memory f.word e (decoded_fits given n f.len f.word hart memory s (decoded f.word f.len) (decoded_even f.word f.len)) e.shown
+    decoded_fits given n h hart memory f (record { formed = formed; ram = ram; rom = rom; allowed = allowed; len_even = even }) (decoded f.word f.len) (decoded_even f.word f.len)
 
-interrupt_fits : (given : Given) (n h : ℕ) (hart : Hart) (memory : MemoryState) → IsWellFormed hart → AreBytes memory.ram → AreBytes memory.rom → IsAllowed hart given → (o : Option ℕ) → FitAnswer n hart memory (from_interrupt given n h hart memory o)
+answer_fits : (n h : ℕ) (hart : Hart) (memory : MemoryState) → IsWellFormed hart → AreBytes memory.ram → (r : Result HartAnswer Exception) → IfOk r (FitAnswer n hart memory) → FitAnswer n hart memory (or_raises h hart memory r)
+answer_fits n h hart memory formed ram (Ok a) fits = fits
+answer_fits n h hart memory formed ram (Err x) fits = raises_fit n h hart memory x formed ram
+
+interrupt_fits : (given : Given) (n h : ℕ) (hart : Hart) (memory : MemoryState) → IsWellFormed hart → AreBytes memory.ram → AreBytes memory.rom → IsAllowed hart given → (o : Option ℕ) → FitAnswer n hart memory (step_after o given n h hart memory)
 interrupt_fits given n h hart memory formed ram rom allowed (Some cause) = record {
   hart_fits = enters_fits (Cause.Interrupt cause) 0 hart formed;
   memory_fits = same_memory memory ram;
   access = tt;
 }
 interrupt_fits given n h hart memory formed ram rom allowed None =
-    fetched_fits given n h hart memory formed ram rom allowed (fetched hart memory) (low_even hart memory (parcel hart memory hart.pc))
+    answer_fits n h hart memory formed ram (fetched hart memory >>= carried_out given n h hart memory)
+    (fetched_fits given n h hart memory formed ram rom allowed (fetched hart memory) (low_even hart memory (parcel hart memory hart.pc)))
 
 hart_fits : (given : Given) (n h : ℕ) (hart : Hart) (memory : MemoryState) → IsWellFormed hart → AreBytes memory.ram → AreBytes memory.rom → IsAllowed hart given → FitAnswer n hart memory (hart_step given n h hart memory)
 unfolding hart_step
@@ -139,23 +142,23 @@ rom_bytes before after are (inr none) = subst AreBytes (sym none) (All-nil (λ b
 core_fits : (core : CoreState) (h : ℕ) → IsFit core → h < length core.harts → (a : HartAnswer) → FitAnswer (length core.harts) (hart_of core h) (memory_of core) a → StepStaysFit core (core_after core h (hart_of core h) a)
 core_fits core h fit within a fits =
     let now : CoreState = (core_after core h (hart_of core h) a).core in
-    let formed : All IsWellFormed now.harts = All-set IsWellFormed (after_store (stored_by a.event) core.harts) h a.hart fits.hart_fits.formed (after_fit (stored_by a.event) core.harts fit.kept.harts) in
+    let formed : All IsWellFormed now.harts = All-set IsWellFormed (after_store a.stored core.harts) h a.hart fits.hart_fits.formed (after_fit a.stored core.harts fit.kept.harts) in
     let left : Bool = (is_in_debug (hart_of core h) && not (is_in_debug a.hart)) && not (list_any is_in_debug now.harts) in
     let rom : (now.rom ≡ core.rom) ⊎ (now.rom ≡ []) = either_rom left core.rom a.memory.rom fits.memory_fits.rom in
     let rom_is : now.rom ≡ rom_after (hart_of core h) a.hart now.harts core.rom = ap (λ (r : List ℕ). rom_after (hart_of core h) a.hart now.harts r) fits.memory_fits.rom in
     record {
       core = record {
         fit = record {
-          kept = kept_step core now (stored_by a.event) h (hart_of core h) a.hart fit.kept within refl fits.hart_fits.number formed refl rom_is;
+          kept = kept_step core now a.stored h (hart_of core h) a.hart fit.kept within refl fits.hart_fits.number formed refl rom_is;
           ram = fits.memory_fits.bytes;
           rom = rom_bytes core.rom now.rom fit.rom rom;
         };
-        harts = after_length (stored_by a.event) core.harts h a.hart;
+        harts = after_length a.stored core.harts h a.hart;
         ram = fits.memory_fits.long;
         rom = rom;
-        outside = λ k out. set_outside (after_store (stored_by a.event) core.harts) h a.hart k (reset_hart 0 0)
+        outside = λ k out. set_outside (after_store a.stored core.harts) h a.hart k (reset_hart 0 0)
             (λ e. fits.hart_fits.outside (subst (λ (i : ℕ). is_in_debug (hart_of core i) ≡ false) e out))
-            (lost_outside (stored_by a.event) core.harts k (reset_hart 0 0) out);
+            (lost_outside a.stored core.harts k (reset_hart 0 0) out);
       };
       access = fits.access;
     }

@@ -1,7 +1,6 @@
 -- What instructions compute and read has the width of a register.
-use Rattle.std.proofs.Common.{◌≡◌, ℕ, ◌-◌, ◌*◌, ◌/◌, ◌%◌, ◌^◌, ◌<◌, ◌==◌, ◌||◌, Bool, true, false, if◌then◌else◌, ℤ, pos, negsuc, ◌+ℤ◌, List, Option, Some, None, refl, arith, bit_and, bit_or, drop, take, lit<, slice_index}
-use Rattle.std.specs.Prelude.{◌*ℤ◌, unwrap_or}
-use Rattle.std.specs.Option.{option_map}
+use Rattle.std.proofs.Common.{ℕ, ◌-◌, ◌*◌, ◌/◌, ◌%◌, ◌^◌, ◌<◌, ◌==◌, ◌||◌, Bool, true, false, if◌then◌else◌, ℤ, pos, negsuc, ◌+ℤ◌, List, arith, bit_and, bit_or, drop, take, lit<, slice_index}
+use Rattle.std.specs.Prelude.{◌*ℤ◌}
 use Rattle.std.proofs.Math.Nat.{div-le_self, mod-le}
 use Rattle.std.proofs.lemmas.Nat.{and_le_r, or_lt, xor_lt}
 use Rattle.std.proofs.lemmas.List.Elements.{All-drop, All-take}
@@ -11,12 +10,11 @@ use Rattle.guest_ram.specs.Bytes.{base, number_at}
 use Rattle.rv_alu.specs.Arithmetic.{alu_of, floor_div, modulo, mul_div_of}
 use Rattle.rv_alu.specs.declared.BinOp.{BinOp}
 use Rattle.rv_alu.specs.declared.MulOp.{MulOp}
-use Rattle.csr_file.specs.declared.registers.DebugRegs.{DebugRegs}
 use Rattle.csr_file.specs.declared.registers.Registers.{Registers}
-use Rattle.csr_file.specs.Kept.{IsDebugFit, IsFit, debug_kept, kept_value}
-use Rattle.csr_file.specs.Numbers.{csr_cycle, csr_dcsr, csr_dpc, csr_dscratch0, csr_dscratch1, csr_instret, csr_mcause, csr_mcounteren, csr_mcycle, csr_medeleg, csr_menvcfg, csr_mepc, csr_mhartid, csr_mideleg, csr_mie, csr_minstret, csr_mip, csr_misa, csr_mscratch, csr_mstatus, csr_mtval, csr_mtvec, csr_satp, csr_scause, csr_scounteren, csr_senvcfg, csr_sepc, csr_sie, csr_sip, csr_sscratch, csr_sstatus, csr_stval, csr_stvec, csr_time, is_debug_number}
+use Rattle.csr_file.specs.Kept.{IsFit, kept_in, kept_value}
+use Rattle.csr_file.specs.Numbers.{csr_cycle, csr_instret, csr_mcycle, csr_mhartid, csr_mideleg, csr_minstret, csr_mip, csr_misa, csr_sie, csr_sip, csr_sstatus, csr_time}
 use Rattle.csr_file.specs.View.{IsGiven, view, volatile_bits}
-use Rattle.csr_file.proofs.LegalLaws.{IsLegal-below}
+use Rattle.csr_file.proofs.FitLaws.{kept_value-below}
 use Rattle.hart_step.specs.Fit.{AreBytes}
 use Rattle.hart_step.specs.Memory.{rom_base, rom_number}
 
@@ -101,58 +99,19 @@ given_below number given within =
     let bits = volatile_bits_below number in
     omega (arith, within)
 
-debug_kept_below : (number : ℕ) (d : DebugRegs) → IsDebugFit d → debug_kept number d < 2 ^ 64
-unfolding debug_kept
-debug_kept_below number d fit =
-    either_below (number == csr_dcsr) _ _ (IsLegal-below csr_dcsr d.dcsr fit.dcsr) (
-    either_below (number == csr_dpc) _ _ (IsLegal-below csr_dpc d.dpc fit.dpc) (
-    either_below (number == csr_dscratch0) _ _ (IsLegal-below csr_dscratch0 d.dscratch0 fit.dscratch0) (
-    either_below (number == csr_dscratch1) _ _ (IsLegal-below csr_dscratch1 d.dscratch1 fit.dscratch1) (lit< tt))))
-
-debug_below : (number : ℕ) (o : Option DebugRegs) → ((d : DebugRegs) → o ≡ Some d → IsDebugFit d) → unwrap_or (option_map (debug_kept number) o) 0 < 2 ^ 64
-debug_below number None fit = lit< tt
-debug_below number (Some d) fit = debug_kept_below number d (fit d refl)
-
-kept_below : (number : ℕ) (r : Registers) → IsFit r → kept_value number r < 2 ^ 64
-unfolding kept_value
-kept_below number r fit =
-    either_below (number == csr_mstatus) _ _ (IsLegal-below csr_mstatus r.mstatus fit.mstatus) (
-    either_below (number == csr_medeleg) _ _ (IsLegal-below csr_medeleg r.medeleg fit.medeleg) (
-    either_below (number == csr_mideleg) _ _ (IsLegal-below csr_mideleg r.mideleg fit.mideleg) (
-    either_below (number == csr_mie) _ _ (IsLegal-below csr_mie r.mie fit.mie) (
-    either_below (number == csr_mtvec) _ _ (IsLegal-below csr_mtvec r.mtvec fit.mtvec) (
-    either_below (number == csr_mcounteren) _ _ (IsLegal-below csr_mcounteren r.mcounteren fit.mcounteren) (
-    either_below (number == csr_menvcfg) _ _ (IsLegal-below csr_menvcfg r.menvcfg fit.menvcfg) (
-    either_below (number == csr_mscratch) _ _ (IsLegal-below csr_mscratch r.mscratch fit.mscratch) (
-    either_below (number == csr_mepc) _ _ (IsLegal-below csr_mepc r.mepc fit.mepc) (
-    either_below (number == csr_mcause) _ _ (IsLegal-below csr_mcause r.mcause fit.mcause) (
-    either_below (number == csr_mtval) _ _ (IsLegal-below csr_mtval r.mtval fit.mtval) (
-    either_below (number == csr_mip) _ _ (IsLegal-below csr_mip r.mip fit.mip) (
-    either_below (number == csr_stvec) _ _ (IsLegal-below csr_stvec r.stvec fit.stvec) (
-    either_below (number == csr_scounteren) _ _ (IsLegal-below csr_scounteren r.scounteren fit.scounteren) (
-    either_below (number == csr_senvcfg) _ _ (IsLegal-below csr_senvcfg r.senvcfg fit.senvcfg) (
-    either_below (number == csr_sscratch) _ _ (IsLegal-below csr_sscratch r.sscratch fit.sscratch) (
-    either_below (number == csr_sepc) _ _ (IsLegal-below csr_sepc r.sepc fit.sepc) (
-    either_below (number == csr_scause) _ _ (IsLegal-below csr_scause r.scause fit.scause) (
-    either_below (number == csr_stval) _ _ (IsLegal-below csr_stval r.stval fit.stval) (
-    either_below (number == csr_satp) _ _ (IsLegal-below csr_satp r.satp fit.satp) (
-    either_below (number == csr_mcycle) _ _ (IsLegal-below csr_mcycle r.mcycle fit.mcycle) (
-    either_below (number == csr_minstret) _ _ (IsLegal-below csr_minstret r.minstret fit.minstret) (
-    either_below (is_debug_number number) _ _ (debug_below number r.debug fit.debug) (lit< tt)))))))))))))))))))))))
-
 -- what an instruction reads of a register
 pub view_below : (r : Registers) (number given : ℕ) → IsFit r → given < 2 ^ 64 → view r number given < 2 ^ 64
-unfolding view
+unfolding view kept_value kept_in
 view_below r number given fit below =
-    let pending : r.mip < 2 ^ 64 = IsLegal-below csr_mip r.mip fit.mip in
-    let delegated : r.mideleg < 2 ^ 64 = IsLegal-below csr_mideleg r.mideleg fit.mideleg in
-    let both : bit_or r.mip given < 2 ^ 64 = or_lt 64 r.mip given pending below in
-    either_below (number == csr_sstatus) _ _ (and_below r.mstatus _ (lit< tt)) (
-    either_below (number == csr_sie) _ _ (and_below r.mie r.mideleg delegated) (
-    either_below (number == csr_sip) _ _ (and_below _ r.mideleg delegated) (
+    let pending : r.kept.mip < 2 ^ 64 = kept_value-below csr_mip r fit in
+    let delegated : r.kept.mideleg < 2 ^ 64 = kept_value-below csr_mideleg r fit in
+    let both : bit_or r.kept.mip given < 2 ^ 64 = or_lt 64 r.kept.mip given pending below in
+    either_below (number == csr_sstatus) _ _ (and_below r.kept.mstatus _ (lit< tt)) (
+    either_below (number == csr_sie) _ _ (and_below r.kept.mie r.kept.mideleg delegated) (
+    either_below (number == csr_sip) _ _ (and_below _ r.kept.mideleg delegated) (
     either_below (number == csr_mip) _ _ both (
     either_below ((number == csr_cycle) || (number == csr_time) || (number == csr_mcycle)) _ _ below (
-    either_below (number == csr_instret) _ _ (IsLegal-below csr_minstret r.minstret fit.minstret) (
+    either_below (number == csr_instret) _ _ (kept_value-below csr_minstret r fit) (
     either_below (number == csr_misa) _ _ (lit< tt) (
     either_below (number == csr_mhartid) _ _ (let small = fit.hart in omega (arith, small)) (
-    kept_below number r fit))))))))
+    kept_value-below number r fit))))))))

@@ -19,18 +19,27 @@ pub data Access : Type 0 where
   Loads : ℕ → ℕ → Access
   Stores : ℕ → ℕ → ℕ → Access
 
--- what the surroundings give hart h, by what they say of an interrupt, of a device register, of a volatile
--- register and of a store-conditional
-abbrev pub given_by : {A : Type 0} → (A → ℕ → Registers → Mode → Option ℕ) → (A → ℕ → ℕ → ℕ → ℕ) → (A → ℕ → ℕ → Registers → ℕ) → (A → ℕ → Bool) → A → ℕ → Hart → Given
-given_by interrupts devices volatiles wins answers h hart = record {
-  interrupt = interrupts answers h hart.csrs hart.mode;
-  device = devices answers h;
-  volatile = λ number. volatiles answers h number hart.csrs;
-  may_win = wins answers h;
+-- what the surroundings say to a hart: the interrupt that it takes with these registers in this mode, what a device
+-- register answers to its load of an address and size, what a volatile register reads as by its number and the
+-- registers, and whether its store-conditional succeeds where it may
+pub record Says : Type 0 where
+  pub interrupt : Registers → Mode → Option ℕ
+  pub device : ℕ → ℕ → ℕ
+  pub volatile : ℕ → Registers → ℕ
+  pub may_win : Bool
+
+-- what that gives a step of the hart
+abbrev pub given_by : Says → Hart → Given
+given_by says hart = record {
+  interrupt = says.interrupt hart.csrs hart.mode;
+  device = says.device;
+  volatile = λ number. says.volatile number hart.csrs;
+  may_win = says.may_win;
 }
 
--- the surroundings after a step's device access, by their own laws for a load and for a store
-abbrev pub after_access : {A : Type 0} → (A → ℕ → ℕ → ℕ → A) → (A → ℕ → ℕ → ℕ → ℕ → List ℕ → A) → A → ℕ → List ℕ → Access → A
-after_access loaded stored old h ram Untouched = old
-after_access loaded stored old h ram (Loads at size) = loaded old h at size
-after_access loaded stored old h ram (Stores at size value) = stored old h at size value ram
+-- the surroundings after a step of hart h with this memory: a step without a device access leaves them as they were,
+-- and what one makes of them is their own
+abbrev pub after_access : {A : Type 0} → (A → ℕ → List ℕ → Access → A) → A → ℕ → List ℕ → Access → A
+after_access after old h ram Untouched = old
+after_access after old h ram (Loads at size) = after old h ram (Loads at size)
+after_access after old h ram (Stores at size value) = after old h ram (Stores at size value)

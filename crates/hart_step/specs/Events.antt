@@ -1,7 +1,7 @@
 -- What every event of a step keeps, and what an instruction shows of itself.
 use Rattle.std.specs.Prelude.{ℕ, ◌^◌, ◌<◌, ◌≤◌, Option, Some, None}
 use Rattle.guest_ram.specs.Bytes.{IsSize}
-use Rattle.hart_step.specs.Shown.{Done}
+use Rattle.hart_step.specs.Done.{Done}
 use Rattle.hart_step.specs.declared.event.Event.{Event}
 use Rattle.hart_step.specs.declared.event.Event.TheVariants.{Commit, Exception, Interrupt, Host}
 use Rattle.hart_step.specs.declared.event.Put.{Put}
@@ -29,6 +29,13 @@ exception_of (Exception hart mode pc cause tval) = Some (pc, cause)
 exception_of (Commit hart mode pc insn rd st dv vl) = None
 exception_of (Interrupt hart cause) = None
 exception_of (Host v) = None
+
+-- what an event shows as stored
+abbrev pub shown_store : Event → Option Put
+shown_store (Commit hart mode pc insn rd st dv vl) = st
+shown_store (Exception hart mode pc cause tval) = None
+shown_store (Interrupt hart cause) = None
+shown_store (Host v) = None
 
 -- the same of what an instruction shows
 pub record IsDone (done : Done) : Type 0 where

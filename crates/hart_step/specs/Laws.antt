@@ -1,13 +1,16 @@
--- What follows from the definitions: every step, a store of the host and lost reservations keep a core well formed.
+-- What follows from the definitions: every step, a store of the host and lost reservations keep a core well formed, and
+-- an event shows what its step stored.
 use Rattle.std.specs.Prelude.{◌≡◌, ◌%◌, ◌^◌, ◌<◌, ◌≤◌, ◌⊎◌, ℕ, List, [], IsFalse, IsTrue, length}
 use Rattle.board_bus.specs.Listed.{is_listed}
+use Rattle.hart_step.specs.declared.hart.Hart.{Hart}
 use Rattle.hart_step.specs.Allowed.{IsAllowed}
 use Rattle.hart_step.specs.Answers.{Access, Given, Loads, Stores, Untouched}
 use Rattle.hart_step.specs.DebugReset.{debug_core}
+use Rattle.hart_step.specs.Events.{shown_store}
 use Rattle.hart_step.specs.Fit.{AreBytes, IsFit}
 use Rattle.hart_step.specs.Harts.{CoreState, hart_of, is_in_debug, reset_core}
-use Rattle.hart_step.specs.Memory.{most_rom}
-use Rattle.hart_step.specs.Step.{Answer, host_cleared, step, unreserved}
+use Rattle.hart_step.specs.Memory.{MemoryState, most_rom}
+use Rattle.hart_step.specs.Step.{Answer, hart_step, host_cleared, step, unreserved}
 
 -- a device access is of a register that a board of n harts lists, and a value that is stored has as many bytes
 abbrev pub IsListedAccess : ℕ → Access → Type 0
@@ -33,6 +36,11 @@ pub record StepStaysFit (before : CoreState) (answer : Answer) : Type 0 where
 abbrev pub StepsStayFit : Type 0
 StepsStayFit = (given : Given) (core : CoreState) (h : ℕ) →
     IsFit core → h < length core.harts → IsAllowed (hart_of core h) given → StepStaysFit core (step given core h)
+
+-- what a step of a hart stored is what its event shows as stored
+abbrev pub EventsShowStores : Type 0
+EventsShowStores = (given : Given) (n h : ℕ) (hart : Hart) (memory : MemoryState) →
+    shown_store (hart_step given n h hart memory).event ≡ (hart_step given n h hart memory).stored
 
 -- a store of the host, wherever it goes
 abbrev pub HostStaysFit : Type 0

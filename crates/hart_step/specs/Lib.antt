@@ -5,8 +5,9 @@ pub mod Memory
 pub mod DebugReset
 pub mod Effects
 pub mod Step
+pub mod Clauses
 pub mod Events
 pub mod Fit
-pub mod Shown
+pub mod Done
 pub mod Laws
 pub mod Told

@@ -6,7 +6,7 @@ use Rattle.rv_alu.specs.declared.Mode.{Mode}
 use Rattle.guest_ram.specs.Bytes.{has_part, number_at}
 use Rattle.csr_file.specs.Bits.{mstatus_mprv, mstatus_mxr, mstatus_sum}
 use Rattle.csr_file.specs.Access.{effective_mode}
-use Rattle.trap_rules.specs.Status.{has, machine_previous}
+use Rattle.trap_rules.specs.Status.{has_any, machine_previous}
 use Rattle.sv39_walk.specs.declared.Kind.{Kind}
 use Rattle.sv39_walk.specs.declared.WalkFault.{WalkFault}
 use Rattle.sv39_walk.specs.Plain.{translated}
@@ -63,6 +63,12 @@ page_cause Kind.Store = 15
 abbrev pub exception : ℕ → ℕ → Exception
 exception cause tval = record { cause = cause; tval = tval }
 
+-- an exception ends what raises it, and a value goes on to what comes next
+infixl 10 ◌>>=◌
+abbrev pub ◌>>=◌ : {A B : Type 0} → Result A Exception → (A → Result B Exception) → Result B Exception
+(Ok a) >>= next = next a
+(Err e) >>= next = Err e
+
 abbrev pub walk_exception : Kind → ℕ → WalkFault → Exception
 walk_exception kind va WalkFault.Page = exception (page_cause kind) va
 walk_exception kind va WalkFault.Access = exception (access_cause kind) va
@@ -78,16 +84,17 @@ acting_mode hart = effective_mode hart.csrs hart.mode
 -- (Privileged ISA, "Memory Privilege in mstatus Register")
 abbrev pub data_mode : Hart → Mode
 data_mode hart =
-    effective_mode hart.csrs (if has hart.csrs.mstatus mstatus_mprv then machine_previous hart.csrs.mstatus else hart.mode)
+    effective_mode hart.csrs (if has_any hart.csrs.kept.mstatus mstatus_mprv then machine_previous hart.csrs.kept.mstatus else hart.mode)
+
+-- what a walk for an access finds, with the exception of its fault
+abbrev pub or_exception : Kind → ℕ → Result ℕ WalkFault → Result ℕ Exception
+or_exception kind va (Ok pa) = Ok pa
+or_exception kind va (Err fault) = Err (walk_exception kind va fault)
 
 -- the physical address of an access to an address in a mode, or its exception
-abbrev pub physical_from : Kind → ℕ → Result ℕ WalkFault → Result ℕ Exception
-physical_from kind va (Ok pa) = Ok pa
-physical_from kind va (Err fault) = Err (walk_exception kind va fault)
-
 abbrev pub physical : Mode → Kind → Hart → List ℕ → ℕ → Result ℕ Exception
 physical mode kind hart ram va =
-    physical_from kind va (translated ram hart.csrs.satp mode (has hart.csrs.mstatus mstatus_sum) (has hart.csrs.mstatus mstatus_mxr) kind va)
+    or_exception kind va (translated ram hart.csrs.kept.satp mode (has_any hart.csrs.kept.mstatus mstatus_sum) (has_any hart.csrs.kept.mstatus mstatus_mxr) kind va)
 
 -- data are naturally aligned, and that comes before any other exception of a data access
 abbrev pub data_address : Kind → ℕ → Hart → List ℕ → ℕ → Result ℕ Exception
@@ -110,28 +117,20 @@ from_device given at size = record { value = given.device at size; access = Load
 
 -- a load of `va` of so many bytes at a physical address is answered by RAM, by the device register there, and
 -- in debug mode by the ROM; it is an access fault elsewhere. The board has n harts
-abbrev pub loaded_at : Given → ℕ → Hart → MemoryState → ℕ → ℕ → ℕ → Result Loaded Exception
-loaded_at given n hart memory size va at =
+abbrev pub answered : Given → ℕ → Hart → MemoryState → ℕ → ℕ → ℕ → Result Loaded Exception
+answered given n hart memory size va at =
     if has_part memory.ram at size then Ok (from_memory (number_at memory.ram at size))
     else if is_listed n at size then Ok (from_device given at size)
     else if is_in_debug hart && rom_holds memory.rom at size then Ok (from_memory (rom_number memory.rom at size))
     else Err (exception (access_cause Kind.Load) va)
 
-abbrev pub loaded_from : Given → ℕ → Hart → MemoryState → ℕ → ℕ → Result ℕ Exception → Result Loaded Exception
-loaded_from given n hart memory size va (Ok at) = loaded_at given n hart memory size va at
-loaded_from given n hart memory size va (Err e) = Err e
-
 abbrev pub loaded : Given → ℕ → Hart → MemoryState → ℕ → ℕ → Result Loaded Exception
-loaded given n hart memory size va = loaded_from given n hart memory size va (data_address Kind.Load size hart memory.ram va)
+loaded given n hart memory size va = do
+  at ← data_address Kind.Load size hart memory.ram va
+  answered given n hart memory size va at
 
--- ---- the physical address of an access that RAM alone answers
-
-abbrev pub ram_address_at : Kind → List ℕ → ℕ → ℕ → ℕ → Result ℕ Exception
-ram_address_at kind ram size va at = if has_part ram at size then Ok at else Err (exception (access_cause kind) va)
-
-abbrev pub ram_address_from : Kind → List ℕ → ℕ → ℕ → Result ℕ Exception → Result ℕ Exception
-ram_address_from kind ram size va (Ok at) = ram_address_at kind ram size va at
-ram_address_from kind ram size va (Err e) = Err e
-
+-- the physical address of an access that RAM alone answers
 abbrev pub ram_address : Kind → ℕ → Hart → List ℕ → ℕ → Result ℕ Exception
-ram_address kind size hart ram va = ram_address_from kind ram size va (data_address kind size hart ram va)
+ram_address kind size hart ram va = do
+  at ← data_address kind size hart ram va
+  if has_part ram at size then Ok at else Err (exception (access_cause kind) va)

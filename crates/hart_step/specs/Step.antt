@@ -1,5 +1,5 @@
--- One step of a hart. It is a chain of small definitions: an interrupt that is given, or else what is fetched, what
--- it decodes to, what the instruction does, and what the step then shows and leaves.
+-- One step of a hart: an interrupt that is given, or else what is fetched, what it decodes to, what the instruction
+-- does, and what the step then shows and leaves. An exception on the way ends it.
 use Rattle.std.specs.Prelude.{◌≡◌, ℕ, ◌+◌, ◌*◌, ◌%◌, ◌^◌, ◌==◌, ◌&&◌, not, Bool, true, false, List, [], Option, Some, None, Result, Ok, Err, length, map, nat_lt, slice_set, if◌then◌else◌}
 use Rattle.std.specs.List.{list_any}
 use Rattle.guest_ram.specs.Bytes.{has_part, number_at, with_part}
@@ -13,51 +13,44 @@ use Rattle.trap_rules.specs.Entry.{entered, handler_pc, handling_mode}
 use Rattle.sv39_walk.specs.declared.Kind.{Kind}
 use Rattle.hart_step.specs.declared.event.Event.{Event}
 use Rattle.hart_step.specs.declared.event.Put.{Put}
-use Rattle.hart_step.specs.declared.event.Event.TheVariants.{Commit, Exception as Raised, Interrupt, Host}
-use Rattle.hart_step.specs.Shown.{Done}
+use Rattle.hart_step.specs.declared.event.Event.TheVariants.{Commit, Exception as Raised, Interrupt}
 use Rattle.hart_step.specs.declared.hart.Hart.{Hart}
 use Rattle.hart_step.specs.Answers.{Access, Given, Untouched, after_access}
 use Rattle.hart_step.specs.Harts.{CoreState, hart_of, is_in_debug, privilege_of}
-use Rattle.hart_step.specs.Memory.{Exception, MemoryState, access_cause, acting_mode, exception, physical, rom_holds, rom_number}
-use Rattle.hart_step.specs.Effects.{Effect, effect, illegal, raises}
+use Rattle.hart_step.specs.Memory.{◌>>=◌, Exception, MemoryState, access_cause, acting_mode, exception, physical, rom_holds, rom_number}
+use Rattle.hart_step.specs.Effects.{Effect, effect, illegal}
 
 -- ---- fetch
 
--- the 16-bit parcel at a physical address: it is answered by RAM, and in debug mode by the ROM too
-abbrev pub parcel_in : Hart → MemoryState → ℕ → ℕ → Result ℕ Exception
-parcel_in hart memory va at =
-    if has_part memory.ram at 2 then Ok (number_at memory.ram at 2)
-    else if is_in_debug hart && rom_holds memory.rom at 2 then Ok (rom_number memory.rom at 2)
-    else Err (exception (access_cause Kind.Fetch) va)
-
-abbrev pub parcel_from : Hart → MemoryState → ℕ → Result ℕ Exception → Result ℕ Exception
-parcel_from hart memory va (Ok at) = parcel_in hart memory va at
-parcel_from hart memory va (Err e) = Err e
-
--- the parcel at an address, each translated by itself
+-- the 16-bit parcel at an address, each translated by itself: it is answered by RAM, and in debug mode by the ROM too
 abbrev pub parcel : Hart → MemoryState → ℕ → Result ℕ Exception
-parcel hart memory va = parcel_from hart memory va (physical (acting_mode hart) Kind.Fetch hart memory.ram va)
+parcel hart memory va = do
+  at ← physical (acting_mode hart) Kind.Fetch hart memory.ram va
+  if has_part memory.ram at 2 then Ok (number_at memory.ram at 2)
+      else if is_in_debug hart && rom_holds memory.rom at 2 then Ok (rom_number memory.rom at 2)
+      else Err (exception (access_cause Kind.Fetch) va)
 
 -- an instruction's word, a 16-bit one with zeros above, and its length in bytes
 pub record Fetched : Type 0 where
   pub word : ℕ
   pub len : ℕ
 
--- a parcel that ends in 11 is the low half of a 32-bit word (Unprivileged ISA, "Expanded Instruction-Length
--- Encoding"); any other is a 16-bit instruction
-abbrev pub with_high : ℕ → Result ℕ Exception → Result Fetched Exception
-with_high low (Ok high) = Ok (record { word = low + 0x10000 * high; len = 4 })
-with_high low (Err e) = Err e
-
-abbrev pub with_low : Hart → MemoryState → Result ℕ Exception → Result Fetched Exception
-with_low hart memory (Err e) = Err e
-with_low hart memory (Ok low) =
-    if low % 4 == 3 then with_high low (parcel hart memory ((hart.pc + 2) % 2 ^ 64)) else Ok (record { word = low; len = 2 })
+-- the instruction that a first parcel begins: one that ends in 11 is the low half of a 32-bit word (Unprivileged ISA,
+-- "Expanded Instruction-Length Encoding"); any other is a 16-bit instruction
+abbrev pub completed : Hart → MemoryState → ℕ → Result Fetched Exception
+completed hart memory low =
+    if low % 4 == 3
+    then (do
+      high ← parcel hart memory ((hart.pc + 2) % 2 ^ 64)
+      Ok (record { word = low + 0x10000 * high; len = 4 }))
+    else Ok (record { word = low; len = 2 })
 
 -- what is fetched at the pc: the word, a 16-bit one with zeros above, and its length in bytes; or the exception of
 -- the parcel that cannot be fetched, whose trap value is that parcel's address
 abbrev pub fetched : Hart → MemoryState → Result Fetched Exception
-fetched hart memory = with_low hart memory (parcel hart memory hart.pc)
+fetched hart memory = do
+  low ← parcel hart memory hart.pc
+  completed hart memory low
 
 -- the instruction that two parcels begin with, the first one in the low half
 abbrev pub first_of : ℕ → Fetched
@@ -65,14 +58,20 @@ first_of parcels =
     if parcels % 4 == 3 then record { word = parcels; len = 4 } else record { word = parcels % 0x10000; len = 2 }
 
 abbrev pub begun_by : Result ℕ Exception → Result Fetched Exception
-begun_by (Ok parcels) = Ok (first_of parcels)
-begun_by (Err e) = Err e
+begun_by read = do
+  parcels ← read
+  Ok (first_of parcels)
 
 -- ---- decoding
 
 -- the instruction of a fetched word, by its length in bytes: a word of two is a compressed form
 abbrev pub decoded : ℕ → ℕ → Option Insn
 decoded word len = if len == 2 then expanded word else word_decoded word
+
+-- a word that stands for no instruction is an illegal one
+abbrev pub or_illegal : ℕ → Option Insn → Result Insn Exception
+or_illegal word (Some insn) = Ok insn
+or_illegal word None = illegal word
 
 -- ---- the step of one hart
 
@@ -92,54 +91,77 @@ traps e hart = if is_in_debug hart then hart else enters (Cause.Exception e.caus
 abbrev pub retired : Bool → Option ℕ → Hart → Hart
 retired was_in_debug wrote hart = if was_in_debug then hart else record hart { csrs = counted true wrote hart.csrs }
 
--- what a step of a hart shows, and what it leaves
+-- what a step of a hart shows, what it stored, and what it leaves
 pub record HartAnswer : Type 0 where
   pub event : Event
+  pub stored : Option Put
   pub hart : Hart
   pub memory : MemoryState
   pub access : Access
 
--- the step of hart h, which was `before`, by what its instruction shows and leaves
-abbrev pub commits : ℕ → Hart → ℕ → Effect → Result Done Exception → HartAnswer
-commits h before word e (Ok done) = record {
-  event = Commit h (privilege_of before) before.pc word done.rd done.st done.dv done.vl;
-  hart = retired (is_in_debug before) done.wrote e.hart;
-  memory = e.memory;
-  access = e.access;
-}
-commits h before word e (Err x) = record {
-  event = Raised h (privilege_of before) before.pc x.cause x.tval;
-  hart = traps x e.hart;
+-- the step of hart h, which was `before`, by the effect of its instruction
+abbrev pub commits : ℕ → Hart → ℕ → Effect → HartAnswer
+commits h before word e = record {
+  event = Commit h (privilege_of before) before.pc word e.done.rd e.done.st e.done.dv e.done.vl;
+  stored = e.done.st;
+  hart = retired (is_in_debug before) e.done.wrote e.hart;
   memory = e.memory;
   access = e.access;
 }
 
-abbrev pub shows : ℕ → Hart → ℕ → Effect → HartAnswer
-shows h before word e = commits h before word e e.shown
+-- the step of hart h by an exception, which leaves all else as it was
+abbrev pub raises : ℕ → Hart → MemoryState → Exception → HartAnswer
+raises h hart memory x = record {
+  event = Raised h (privilege_of hart) hart.pc x.cause x.tval;
+  stored = None;
+  hart = traps x hart;
+  memory = memory;
+  access = Untouched;
+}
 
-abbrev pub from_decoded : Given → ℕ → ℕ → ℕ → Hart → MemoryState → Option Insn → Effect
-from_decoded given n len word hart memory None = illegal word hart memory
-from_decoded given n len word hart memory (Some insn) = effect given n len word insn hart memory
+abbrev pub or_raises : ℕ → Hart → MemoryState → Result HartAnswer Exception → HartAnswer
+or_raises h hart memory (Ok a) = a
+or_raises h hart memory (Err x) = raises h hart memory x
 
-abbrev pub from_fetched : Given → ℕ → ℕ → Hart → MemoryState → Result Fetched Exception → HartAnswer
-from_fetched given n h hart memory (Err e) = shows h hart 0 (raises e hart memory)
-from_fetched given n h hart memory (Ok f) = shows h hart f.word (from_decoded given n f.len f.word hart memory (decoded f.word f.len))
+-- the instruction of a fetched word is decoded and carried out, on a board of n harts
+abbrev pub carried_out : Given → ℕ → ℕ → Hart → MemoryState → Fetched → Result HartAnswer Exception
+carried_out given n h hart memory f = do
+  insn ← or_illegal f.word (decoded f.word f.len)
+  e ← effect (record { given = given; harts = n; word = f.word; len = f.len }) insn hart memory
+  Ok (commits h hart f.word e)
 
--- an interrupt that is given is taken before the fetch, and is the whole step
-abbrev pub from_interrupt : Given → ℕ → ℕ → Hart → MemoryState → Option ℕ → HartAnswer
-from_interrupt given n h hart memory (Some cause) = record { event = Interrupt h cause; hart = enters (Cause.Interrupt cause) 0 hart; memory = memory; access = Untouched }
-from_interrupt given n h hart memory None = from_fetched given n h hart memory (fetched hart memory)
+-- the step of an instruction
+abbrev pub instruction_step : Given → ℕ → ℕ → Hart → MemoryState → HartAnswer
+instruction_step given n h hart memory = or_raises h hart memory (do
+  f ← fetched hart memory
+  carried_out given n h hart memory f)
+
+-- an interrupt is the whole step
+abbrev pub interrupted : ℕ → ℕ → Hart → MemoryState → HartAnswer
+interrupted cause h hart memory = record {
+  event = Interrupt h cause;
+  stored = None;
+  hart = enters (Cause.Interrupt cause) 0 hart;
+  memory = memory;
+  access = Untouched;
+}
+
+-- an interrupt that is given is taken before the fetch
+abbrev pub step_after : Option ℕ → Given → ℕ → ℕ → Hart → MemoryState → HartAnswer
+step_after (Some cause) given n h hart memory = interrupted cause h hart memory
+step_after None given n h hart memory = instruction_step given n h hart memory
 
 -- one step of a hart with number h, on a board of n harts
 unfoldable pub hart_step : Given → ℕ → ℕ → Hart → MemoryState → HartAnswer
-hart_step given n h hart memory = from_interrupt given n h hart memory given.interrupt
+hart_step given n h hart memory = step_after given.interrupt given n h hart memory
 
--- the hart, memory, the event and the surroundings are what a step of hart h says
-pub record StepLeaves {A : Type 0} (loaded_by : A → ℕ → ℕ → ℕ → A) (stored_by : A → ℕ → ℕ → ℕ → ℕ → List ℕ → A) (old new : A) (h : ℕ) (hart : Hart) (memory : MemoryState) (event : Event) (a : HartAnswer) : Type 0 where
+-- the hart, memory, the event, what was stored and the surroundings are what a step of hart h says
+pub record StepLeaves {A : Type 0} (after : A → ℕ → List ℕ → Access → A) (old new : A) (h : ℕ) (hart : Hart) (memory : MemoryState) (event : Event) (put : Option Put) (a : HartAnswer) : Type 0 where
   pub hart_is : hart ≡ a.hart
   pub memory_is : memory ≡ a.memory
   pub event_is : event ≡ a.event
-  pub outside : new ≡ after_access loaded_by stored_by old h a.memory.ram a.access
+  pub stored_is : put ≡ a.stored
+  pub outside : new ≡ after_access after old h a.memory.ram a.access
 
 -- ---- the step of a core
 
@@ -158,13 +180,6 @@ abbrev pub after_store : Option Put → List Hart → List Hart
 after_store None harts = harts
 after_store (Some put) harts = map (without_reservation put.at put.size) harts
 
--- what an event shows as stored
-abbrev pub stored_by : Event → Option Put
-stored_by (Commit h mode pc word rd st dv vl) = st
-stored_by (Raised h mode pc cause tval) = None
-stored_by (Interrupt h cause) = None
-stored_by (Host word) = None
-
 -- the ROM is empty from the step on in which the last hart leaves debug mode
 abbrev pub rom_after : Hart → Hart → List Hart → List ℕ → List ℕ
 rom_after before after harts rom =
@@ -177,7 +192,7 @@ pub record Answer : Type 0 where
 
 -- the harts of a core after hart h made a step: a store takes the reservations of the others that it touches
 abbrev pub harts_after : CoreState → ℕ → HartAnswer → List Hart
-harts_after core h a = slice_set (after_store (stored_by a.event) core.harts) h a.hart
+harts_after core h a = slice_set (after_store a.stored core.harts) h a.hart
 
 abbrev pub core_after : CoreState → ℕ → Hart → HartAnswer → Answer
 core_after core h before a = record {

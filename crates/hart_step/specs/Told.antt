@@ -1,7 +1,7 @@
 -- A step that is told what another step showed: what the record of a step tells whoever makes the step again, and the
 -- laws that it then does the same. A hart that makes it again may have a reservation where the other had none, as the
 -- judged core has after a checkpoint which dropped them.
-use Rattle.std.specs.Prelude.{◌≡◌, ℕ, ◌<◌, Bool, false, List, [], ◌∷◌, length, Option, Some, None, Result, Ok, Err, is_some, unwrap_or, bit_and}
+use Rattle.std.specs.Prelude.{◌≡◌, ℕ, ◌<◌, Bool, false, List, [], ◌∷◌, length, Option, Some, None, Ok, Err, is_some, unwrap_or, bit_and}
 use Rattle.rv_alu.specs.Bits.{low_bytes}
 use Rattle.rv_decode.specs.declared.Insn.{Insn}
 use Rattle.csr_file.specs.View.{volatile_bits}
@@ -10,10 +10,9 @@ use Rattle.hart_step.specs.declared.event.Event.TheVariants.{Commit, Exception a
 use Rattle.hart_step.specs.declared.hart.Hart.{Hart}
 use Rattle.hart_step.specs.Allowed.{IsAllowed}
 use Rattle.hart_step.specs.Answers.{Given}
-use Rattle.hart_step.specs.Effects.{Effect, effect}
+use Rattle.hart_step.specs.Effects.{Effect, Outcome, Situation, effect}
 use Rattle.hart_step.specs.Harts.{CoreState, hart_of}
-use Rattle.hart_step.specs.Memory.{Exception, MemoryState}
-use Rattle.hart_step.specs.Shown.{Done}
+use Rattle.hart_step.specs.Memory.{MemoryState}
 use Rattle.hart_step.specs.Step.{Answer, step}
 
 -- ---- what a step is told
@@ -28,11 +27,11 @@ told interrupt device seen wins = record {
   may_win = wins;
 }
 
--- what is shown of an instruction tells what it was given: what is not shown is 0, and a store-conditional succeeds
+-- what an instruction comes to tells what it was given: what is not shown is 0, and a store-conditional succeeds
 -- exactly where a store is shown
-abbrev pub told_shown : Result Done Exception → Given
-told_shown (Ok done) = told None (unwrap_or done.dv 0) (unwrap_or done.vl 0) (is_some done.st)
-told_shown (Err x) = told None 0 0 false
+abbrev pub told_of : Outcome → Given
+told_of (Ok e) = told None (unwrap_or e.done.dv 0) (unwrap_or e.done.vl 0) (is_some e.done.st)
+told_of (Err x) = told None 0 0 false
 
 -- the same of an event
 abbrev pub told_by : Event → Given
@@ -82,13 +81,19 @@ pub record Follows (mine theirs : Effect) : Type 0 where
   pub is : mine ≡ with_reservation reservation theirs
   pub covers : Covers reservation theirs.hart.reservation
 
--- an instruction that is told what another carrying out of it showed does the same, on a hart whose reservation covers
+abbrev pub OutcomeFollows : Outcome → Outcome → Type 0
+OutcomeFollows (Ok mine) (Ok theirs) = Follows mine theirs
+OutcomeFollows (Err mine) (Err theirs) = mine ≡ theirs
+OutcomeFollows (Ok mine) (Err theirs) = ⊥
+OutcomeFollows (Err mine) (Ok theirs) = ⊥
+
+-- an instruction that is told what another carrying out of it came to does the same, on a hart whose reservation covers
 -- that one's
 abbrev pub EffectsFollow : Type 0
-EffectsFollow = (given : Given) (n len word : ℕ) (insn : Insn) (hart : Hart) (memory : MemoryState) (r : Option ℕ) →
-    Covers r hart.reservation → IsAllowed hart given →
-    Follows (effect (told_shown (effect given n len word insn hart memory).shown) n len word insn (reserved r hart) memory)
-    (effect given n len word insn hart memory)
+EffectsFollow = (s : Situation) (insn : Insn) (hart : Hart) (memory : MemoryState) (r : Option ℕ) →
+    Covers r hart.reservation → IsAllowed hart s.given →
+    OutcomeFollows (effect (record s { given = told_of (effect s insn hart memory) }) insn (reserved r hart) memory)
+    (effect s insn hart memory)
 
 -- the first step shows what the second one shows, and leaves a core that covers that one's
 pub record StepFollows (mine theirs : Answer) : Type 0 where

@@ -1,11 +1,12 @@
 // Loads and stores.
 
-ghost use Rattle.std.specs.Prelude.{◌≡◌, ◌%◌, ◌<◌, ◌≤◌, IfOk, length};
+ghost use Rattle.std.specs.Prelude.{◌≡◌, ◌%◌, ◌<◌, ◌≤◌, IfOk};
 ghost use Rattle.guest_ram.specs.Bytes.{IsSize};
 ghost use Rattle.hart_step.specs.Answers.{given_by};
+ghost use Rattle.hart_step.specs.Clauses.{Keeps};
 ghost use Rattle.hart_step.specs.Effects.{Leaves, extended_by, loads_at, shows_store, stores_at};
 ghost use Rattle.hart_step.specs.Events.{IsDone, IsWritten};
-ghost use Rattle.hart_step.specs.Harts.{IsFitHart, StaysFit};
+ghost use Rattle.hart_step.specs.Harts.{IsFitHart};
 
 use crate::answers::Answers;
 use crate::arithmetic::{put_register, write};
@@ -67,13 +68,11 @@ fn load_bytes<A: Answers>(
     requires harts { site.harts ≤ 8 }
     requires length { site.len % 2 ≡ 0 }
     requires fit { IsFitHart hart.old }
-    ensures leaves { Leaves A.loaded A.stored answers.old answers.new site.hart hart.new memory.new result
-        (loads_at (given_by A.interrupts A.devices A.volatiles A.wins answers.old site.hart hart.old)
+    ensures leaves { Leaves A.after answers.old answers.new site.hart hart.old hart.new memory.old memory.new result
+        (loads_at (given_by (A.says answers.old site.hart) hart.old)
         site.harts size extension site.len rd va hart.old memory.old) }
     ensures formed { IfOk result IsDone }
-    ensures length { length memory.new.ram ≡ length memory.old.ram }
-    ensures rom { memory.new.rom ≡ memory.old.rom }
-    ensures fit { StaysFit hart.old hart.new }
+    ensures keeps { Keeps hart.old hart.new memory.old memory.new }
 {
     let next = following(hart, site.len);
     let at = memory.data_address(hart, Kind::Load, size, va)?;
@@ -111,13 +110,11 @@ pub(crate) fn load<A: Answers>(
     requires harts { site.harts ≤ 8 }
     requires length { site.len % 2 ≡ 0 }
     requires fit { IsFitHart hart.old }
-    ensures leaves { Leaves A.loaded A.stored answers.old answers.new site.hart hart.new memory.new result
-        (loads_at (given_by A.interrupts A.devices A.volatiles A.wins answers.old site.hart hart.old)
+    ensures leaves { Leaves A.after answers.old answers.new site.hart hart.old hart.new memory.old memory.new result
+        (loads_at (given_by (A.says answers.old site.hart) hart.old)
         site.harts size extension site.len rd va hart.old memory.old) }
     ensures formed { IfOk result IsDone }
-    ensures length { length memory.new.ram ≡ length memory.old.ram }
-    ensures rom { memory.new.rom ≡ memory.old.rom }
-    ensures fit { StaysFit hart.old hart.new }
+    ensures keeps { Keeps hart.old hart.new memory.old memory.new }
 {
     if memory.is_direct(hart, size, va) {
         let next = following(hart, site.len);
@@ -155,12 +152,10 @@ fn store_bytes<A: Answers>(
     requires harts { site.harts ≤ 8 }
     requires length { site.len % 2 ≡ 0 }
     requires fit { IsFitHart hart.old }
-    ensures leaves { Leaves A.loaded A.stored answers.old answers.new site.hart hart.new memory.new result
+    ensures leaves { Leaves A.after answers.old answers.new site.hart hart.old hart.new memory.old memory.new result
         (stores_at site.harts size value site.len va hart.old memory.old) }
     ensures formed { IfOk result IsDone }
-    ensures length { length memory.new.ram ≡ length memory.old.ram }
-    ensures rom { memory.new.rom ≡ memory.old.rom }
-    ensures fit { StaysFit hart.old hart.new }
+    ensures keeps { Keeps hart.old hart.new memory.old memory.new }
 {
     let next = following(hart, site.len);
     let at = memory.data_address(hart, Kind::Store, size, va)?;
@@ -193,12 +188,10 @@ pub(crate) fn store<A: Answers>(
     requires harts { site.harts ≤ 8 }
     requires length { site.len % 2 ≡ 0 }
     requires fit { IsFitHart hart.old }
-    ensures leaves { Leaves A.loaded A.stored answers.old answers.new site.hart hart.new memory.new result
+    ensures leaves { Leaves A.after answers.old answers.new site.hart hart.old hart.new memory.old memory.new result
         (stores_at site.harts size value site.len va hart.old memory.old) }
     ensures formed { IfOk result IsDone }
-    ensures length { length memory.new.ram ≡ length memory.old.ram }
-    ensures rom { memory.new.rom ≡ memory.old.rom }
-    ensures fit { StaysFit hart.old hart.new }
+    ensures keeps { Keeps hart.old hart.new memory.old memory.new }
 {
     if memory.is_direct(hart, size, va) {
         memory.write(va, size, value);

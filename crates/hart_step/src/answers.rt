@@ -1,11 +1,10 @@
 // What a step asks of its surroundings.
 
-ghost use Rattle.std.specs.Prelude.{ℕ, Bool, List, Option, IfSome, IsTrue, ◌≡◌, ◌<◌, ◌^◌, ◌*◌};
-ghost use Rattle.rv_alu.specs.declared.Mode.{Mode as ModeOf};
-ghost use Rattle.csr_file.specs.declared.registers.Registers.{Registers};
+ghost use Rattle.std.specs.Prelude.{ℕ, List, IfSome, IsTrue, ◌≡◌, ◌<◌, ◌^◌, ◌*◌};
 ghost use Rattle.csr_file.specs.View.{IsGiven};
 ghost use Rattle.guest_ram.specs.Bytes.{IsSize};
 ghost use Rattle.trap_rules.specs.Interrupt.{may_be_taken};
+ghost use Rattle.hart_step.specs.Answers.{Access, Loads, Says, Stores};
 
 use csr_file::CsrFile;
 use guest_ram::GuestRam;
@@ -19,31 +18,18 @@ pub trait Answers {
     /// Whether a hart can make a step now.
     ghost ready: { Self → ℕ → Type 0 };
 
-    /// The interrupt that a hart with these registers takes in this mode.
-    ghost interrupts: { Self → ℕ → Registers → ModeOf → Option ℕ };
+    /// What is said to a hart.
+    ghost says: { Self → ℕ → Says };
 
-    /// What the device register of this address and size answers to a hart's load.
-    ghost devices: { Self → ℕ → ℕ → ℕ → ℕ };
-
-    /// What the volatile register of this number reads as in a hart with these registers.
-    ghost volatiles: { Self → ℕ → ℕ → Registers → ℕ };
-
-    /// Whether a hart's store-conditional with a reservation succeeds.
-    ghost wins: { Self → ℕ → Bool };
-
-    /// What the value is after a hart's load from a device register: the hart, the address and the
-    /// size in bytes.
-    ghost loaded: { Self → ℕ → ℕ → ℕ → Self };
-
-    /// What the value is after a hart's store to a device register: the hart, the address, the size
-    /// in bytes, the value and the memory at that moment.
-    ghost stored: { Self → ℕ → ℕ → ℕ → ℕ → List ℕ → Self };
+    /// What a hart's device access makes of the value, with the memory of that moment, of which a load
+    /// sees nothing.
+    ghost after: { Self → ℕ → List ℕ → Access → Self };
 
     /// The interrupt that hart `hart` takes now, in `mode` with the registers `csrs`; none where it
     /// takes none. It may be taken.
     fn interrupt(&mut self, hart: u8, csrs: &CsrFile, mode: Mode) -> Option<u8>
         requires ready { ready self.old hart }
-        ensures answer { result ≡ interrupts self.old hart csrs.now mode }
+        ensures answer { result ≡ (says self.old hart).interrupt csrs.now mode }
         ensures permitted { IfSome result (λ cause. IsTrue (may_be_taken csrs.now mode cause)) }
         ensures same { self.new ≡ self.old };
 
@@ -51,28 +37,28 @@ pub trait Answers {
     fn device_load(&mut self, hart: u8, at: u64, size: u8) -> u64
         requires ready { ready self.old hart }
         requires size { IsSize size }
-        ensures answer { result ≡ devices self.old hart at size }
+        ensures answer { result ≡ (says self.old hart).device at size }
         ensures fits { result < 2 ^ (8 * size) }
-        ensures after { self.new ≡ loaded self.old hart at size };
+        ensures after { (ram : List ℕ) → self.new ≡ after self.old hart ram (Loads at size) };
 
     /// Stores the low `size` bytes of `value` to the device register at `at`. A device may read
     /// `ram`, as one that sends a part of it does.
     fn device_store(&mut self, hart: u8, at: u64, size: u8, value: u64, ram: &GuestRam)
         requires ready { ready self.old hart }
         requires size { IsSize size }
-        ensures { self.new ≡ stored self.old hart at size value ram.now };
+        ensures { self.new ≡ after self.old hart ram.now (Stores at size value) };
 
     /// What the volatile register `num` of hart `hart` reads as now. It has no bit outside the
     /// register's volatile bits.
     fn volatile(&mut self, hart: u8, num: u16, csrs: &CsrFile) -> u64
         requires ready { ready self.old hart }
-        ensures answer { result ≡ volatiles self.old hart num csrs.now }
+        ensures answer { result ≡ (says self.old hart).volatile num csrs.now }
         ensures within { IsGiven num result }
         ensures same { self.new ≡ self.old };
 
     /// Whether a store-conditional of hart `hart`, which has a reservation of its bytes, succeeds.
     fn sc_may_win(&mut self, hart: u8) -> bool
         requires ready { ready self.old hart }
-        ensures answer { result ≡ wins self.old hart }
+        ensures answer { result ≡ (says self.old hart).may_win }
         ensures same { self.new ≡ self.old };
 }

@@ -1,10 +1,11 @@
 // Instructions that write a register.
 
-ghost use Rattle.std.specs.Prelude.{◌≡◌, ◌%◌, ◌<◌, IfOk, Ok};
+ghost use Rattle.std.specs.Prelude.{◌≡◌, ◌%◌, ◌<◌};
 ghost use Rattle.rv_alu.specs.Arithmetic.{alu_of, modulo, mul_div_of};
+ghost use Rattle.hart_step.specs.Clauses.{CarriesOut};
 ghost use Rattle.hart_step.specs.Harts.{IsFitHart, register, shown_register, StaysFit};
 ghost use Rattle.hart_step.specs.Effects.{shows_write, with_write};
-ghost use Rattle.hart_step.specs.Events.{IsDone, IsWritten};
+ghost use Rattle.hart_step.specs.Events.{IsWritten};
 
 use crate::done::{Done, Written};
 use crate::exception::Exception;
@@ -41,10 +42,7 @@ pub(crate) fn write(hart: &mut Hart, rd: u8, value: u64, next: u64) -> Result<Do
     requires register { rd < 32 }
     requires fit { IsFitHart hart.old }
     requires even { next % 2 ≡ 0 }
-    ensures hart { hart.new ≡ with_write hart.old rd value next }
-    ensures shown { result ≡ Ok (shows_write rd value) }
-    ensures formed { IfOk result IsDone }
-    ensures fit { StaysFit hart.old hart.new }
+    ensures { CarriesOut hart.old hart.new result (with_write hart.old rd value next) (shows_write rd value) }
 {
     let shown = put_register(hart, rd, value, next);
     Ok(Done::plain(shown))
@@ -64,10 +62,9 @@ pub(crate) fn compute_immediate(
     requires rs1 { rs1 < 32 }
     requires fit { IsFitHart hart.old }
     requires even { next % 2 ≡ 0 }
-    ensures hart { hart.new ≡ with_write hart.old rd (alu_of op (register hart.old rs1) (modulo 64 imm)) next }
-    ensures shown { result ≡ Ok (shows_write rd (alu_of op (register hart.old rs1) (modulo 64 imm))) }
-    ensures formed { IfOk result IsDone }
-    ensures fit { StaysFit hart.old hart.new }
+    ensures { CarriesOut hart.old hart.new result
+        (with_write hart.old rd (alu_of op (register hart.old rs1) (modulo 64 imm)) next)
+        (shows_write rd (alu_of op (register hart.old rs1) (modulo 64 imm))) }
 {
     let value = alu(op, hart.x(rs1), word_of(imm));
     write(hart, rd, value, next)
@@ -87,10 +84,9 @@ pub(crate) fn compute_shift(
     requires rs1 { rs1 < 32 }
     requires fit { IsFitHart hart.old }
     requires even { next % 2 ≡ 0 }
-    ensures hart { hart.new ≡ with_write hart.old rd (alu_of op (register hart.old rs1) shamt) next }
-    ensures shown { result ≡ Ok (shows_write rd (alu_of op (register hart.old rs1) shamt)) }
-    ensures formed { IfOk result IsDone }
-    ensures fit { StaysFit hart.old hart.new }
+    ensures { CarriesOut hart.old hart.new result
+        (with_write hart.old rd (alu_of op (register hart.old rs1) shamt) next)
+        (shows_write rd (alu_of op (register hart.old rs1) shamt)) }
 {
     let value = alu(op, hart.x(rs1), u64::from(shamt));
     write(hart, rd, value, next)
@@ -111,10 +107,9 @@ pub(crate) fn compute(
     requires rs2 { rs2 < 32 }
     requires fit { IsFitHart hart.old }
     requires even { next % 2 ≡ 0 }
-    ensures hart { hart.new ≡ with_write hart.old rd (alu_of op (register hart.old rs1) (register hart.old rs2)) next }
-    ensures shown { result ≡ Ok (shows_write rd (alu_of op (register hart.old rs1) (register hart.old rs2))) }
-    ensures formed { IfOk result IsDone }
-    ensures fit { StaysFit hart.old hart.new }
+    ensures { CarriesOut hart.old hart.new result
+        (with_write hart.old rd (alu_of op (register hart.old rs1) (register hart.old rs2)) next)
+        (shows_write rd (alu_of op (register hart.old rs1) (register hart.old rs2))) }
 {
     let value = alu(op, hart.x(rs1), hart.x(rs2));
     write(hart, rd, value, next)
@@ -135,10 +130,9 @@ pub(crate) fn multiply(
     requires rs2 { rs2 < 32 }
     requires fit { IsFitHart hart.old }
     requires even { next % 2 ≡ 0 }
-    ensures hart { hart.new ≡ with_write hart.old rd (mul_div_of op (register hart.old rs1) (register hart.old rs2)) next }
-    ensures shown { result ≡ Ok (shows_write rd (mul_div_of op (register hart.old rs1) (register hart.old rs2))) }
-    ensures formed { IfOk result IsDone }
-    ensures fit { StaysFit hart.old hart.new }
+    ensures { CarriesOut hart.old hart.new result
+        (with_write hart.old rd (mul_div_of op (register hart.old rs1) (register hart.old rs2)) next)
+        (shows_write rd (mul_div_of op (register hart.old rs1) (register hart.old rs2))) }
 {
     let value = mul_div(op, hart.x(rs1), hart.x(rs2));
     write(hart, rd, value, next)

@@ -1,11 +1,12 @@
 // Atomic memory operations.
 
-ghost use Rattle.std.specs.Prelude.{◌≡◌, ◌⊎◌, ◌%◌, ◌<◌, IfOk, length};
+ghost use Rattle.std.specs.Prelude.{◌≡◌, ◌⊎◌, ◌%◌, ◌<◌, IfOk};
 ghost use Rattle.guest_ram.specs.Bytes.{IsSize};
 ghost use Rattle.hart_step.specs.Answers.{given_by};
+ghost use Rattle.hart_step.specs.Clauses.{Keeps};
 ghost use Rattle.hart_step.specs.Effects.{Leaves, LeavesUntouched, has_reserved, reserved_at, reserves, stores_conditionally, updates};
 ghost use Rattle.hart_step.specs.Events.{IsDone};
-ghost use Rattle.hart_step.specs.Harts.{IsFitHart, StaysFit};
+ghost use Rattle.hart_step.specs.Harts.{IsFitHart};
 
 use crate::access::{Extension, Site, extended, stored};
 use crate::answers::Answers;
@@ -53,12 +54,10 @@ pub(crate) fn load_reserved(
     requires size { IsSize size }
     requires length { site.len % 2 ≡ 0 }
     requires fit { IsFitHart hart.old }
-    ensures leaves { LeavesUntouched hart.new memory.new result
+    ensures leaves { LeavesUntouched hart.old hart.new memory.old memory.new result
         (reserves size site.len rd rs1 hart.old memory.old) }
     ensures formed { IfOk result IsDone }
-    ensures length { length memory.new.ram ≡ length memory.old.ram }
-    ensures rom { memory.new.rom ≡ memory.old.rom }
-    ensures fit { StaysFit hart.old hart.new }
+    ensures keeps { Keeps hart.old hart.new memory.old memory.new }
 {
     let next = following(hart, site.len);
     let at = memory.ram_address(hart, Kind::Load, size, hart.x(rs1))?;
@@ -87,13 +86,11 @@ pub(crate) fn store_conditional<A: Answers>(
     requires size { IsSize size }
     requires length { site.len % 2 ≡ 0 }
     requires fit { IsFitHart hart.old }
-    ensures leaves { Leaves A.loaded A.stored answers.old answers.new site.hart hart.new memory.new result
-        (stores_conditionally (given_by A.interrupts A.devices A.volatiles A.wins answers.old site.hart hart.old)
+    ensures leaves { Leaves A.after answers.old answers.new site.hart hart.old hart.new memory.old memory.new result
+        (stores_conditionally (given_by (A.says answers.old site.hart) hart.old)
         size site.len rd rs1 rs2 hart.old memory.old) }
     ensures formed { IfOk result IsDone }
-    ensures length { length memory.new.ram ≡ length memory.old.ram }
-    ensures rom { memory.new.rom ≡ memory.old.rom }
-    ensures fit { StaysFit hart.old hart.new }
+    ensures keeps { Keeps hart.old hart.new memory.old memory.new }
 {
     let next = following(hart, site.len);
     let (address, value) = (hart.x(rs1), hart.x(rs2));
@@ -126,12 +123,10 @@ fn update_bytes(
     requires size { (size ≡ 4) ⊎ (size ≡ 8) }
     requires length { site.len % 2 ≡ 0 }
     requires fit { IsFitHart hart.old }
-    ensures leaves { LeavesUntouched hart.new memory.new result
+    ensures leaves { LeavesUntouched hart.old hart.new memory.old memory.new result
         (updates op size site.len rd rs1 rs2 hart.old memory.old) }
     ensures formed { IfOk result IsDone }
-    ensures length { length memory.new.ram ≡ length memory.old.ram }
-    ensures rom { memory.new.rom ≡ memory.old.rom }
-    ensures fit { StaysFit hart.old hart.new }
+    ensures keeps { Keeps hart.old hart.new memory.old memory.new }
 {
     let next = following(hart, site.len);
     let at = memory.ram_address(hart, Kind::Store, size, hart.x(rs1))?;
@@ -162,12 +157,10 @@ pub(crate) fn update(
     requires size { (size ≡ 4) ⊎ (size ≡ 8) }
     requires length { site.len % 2 ≡ 0 }
     requires fit { IsFitHart hart.old }
-    ensures leaves { LeavesUntouched hart.new memory.new result
+    ensures leaves { LeavesUntouched hart.old hart.new memory.old memory.new result
         (updates op size site.len rd rs1 rs2 hart.old memory.old) }
     ensures formed { IfOk result IsDone }
-    ensures length { length memory.new.ram ≡ length memory.old.ram }
-    ensures rom { memory.new.rom ≡ memory.old.rom }
-    ensures fit { StaysFit hart.old hart.new }
+    ensures keeps { Keeps hart.old hart.new memory.old memory.new }
 {
     update_bytes(site, hart, memory, op, size, rd, rs1, rs2)
 }

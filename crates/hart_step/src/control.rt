@@ -1,10 +1,10 @@
 // Where the pc goes.
 
-ghost use Rattle.std.specs.Prelude.{◌≡◌, ◌%◌, ◌<◌, IfOk, Ok};
+ghost use Rattle.std.specs.Prelude.{◌≡◌, ◌%◌, ◌<◌};
 ghost use Rattle.rv_alu.specs.Arithmetic.{modulo};
-ghost use Rattle.hart_step.specs.Harts.{IsFitHart, register, StaysFit};
+ghost use Rattle.hart_step.specs.Harts.{IsFitHart, register};
+ghost use Rattle.hart_step.specs.Clauses.{CarriesOut};
 ghost use Rattle.hart_step.specs.Effects.{at_pc, even_part, next_of, offset_by, pc_after, shows_nothing, shows_write, with_write};
-ghost use Rattle.hart_step.specs.Events.{IsDone};
 
 use crate::arithmetic::write;
 use crate::done::{Done, Written};
@@ -38,10 +38,7 @@ pub(crate) fn following(hart: &Hart, len: u8) -> u64
 pub(crate) fn pass(hart: &mut Hart, next: u64) -> Result<Done, Exception>
     requires fit { IsFitHart hart.old }
     requires even { next % 2 ≡ 0 }
-    ensures hart { hart.new ≡ at_pc hart.old next }
-    ensures shown { result ≡ Ok shows_nothing }
-    ensures formed { IfOk result IsDone }
-    ensures fit { StaysFit hart.old hart.new }
+    ensures { CarriesOut hart.old hart.new result (at_pc hart.old next) shows_nothing }
 {
     hart.pc = next;
     Ok(Done::plain(Written::none()))
@@ -54,10 +51,9 @@ pub(crate) fn jump(hart: &mut Hart, rd: u8, imm: i64, next: u64) -> Result<Done,
     requires offset { modulo 1 imm ≡ 0 }
     requires fit { IsFitHart hart.old }
     requires even { next % 2 ≡ 0 }
-    ensures hart { hart.new ≡ with_write hart.old rd next (offset_by hart.old.pc imm) }
-    ensures fit { StaysFit hart.old hart.new }
-    ensures shown { result ≡ Ok (shows_write rd next) }
-    ensures formed { IfOk result IsDone }
+    ensures { CarriesOut hart.old hart.new result
+        (with_write hart.old rd next (offset_by hart.old.pc imm))
+        (shows_write rd next) }
 {
     let target = offset(hart.pc, imm);
     write(hart, rd, next, target)
@@ -76,10 +72,9 @@ pub(crate) fn jump_register(
     requires rs1 { rs1 < 32 }
     requires fit { IsFitHart hart.old }
     requires even { next % 2 ≡ 0 }
-    ensures hart { hart.new ≡ with_write hart.old rd next (even_part (offset_by (register hart.old rs1) imm)) }
-    ensures shown { result ≡ Ok (shows_write rd next) }
-    ensures formed { IfOk result IsDone }
-    ensures fit { StaysFit hart.old hart.new }
+    ensures { CarriesOut hart.old hart.new result
+        (with_write hart.old rd next (even_part (offset_by (register hart.old rs1) imm)))
+        (shows_write rd next) }
 {
     let target = offset(hart.x(rs1), imm);
     write(hart, rd, next, target - target % 2)
@@ -100,10 +95,9 @@ pub(crate) fn branch_to(
     requires offset { modulo 1 imm ≡ 0 }
     requires fit { IsFitHart hart.old }
     requires length { len % 2 ≡ 0 }
-    ensures hart { hart.new ≡ at_pc hart.old (next_of op len rs1 rs2 imm hart.old) }
-    ensures shown { result ≡ Ok shows_nothing }
-    ensures formed { IfOk result IsDone }
-    ensures fit { StaysFit hart.old hart.new }
+    ensures { CarriesOut hart.old hart.new result
+        (at_pc hart.old (next_of op len rs1 rs2 imm hart.old))
+        shows_nothing }
 {
     let next = if branch(op, hart.x(rs1), hart.x(rs2)) {
         offset(hart.pc, imm)

@@ -1,16 +1,14 @@
 // A core of several harts over one memory.
 
-ghost use Rattle.std.specs.Prelude.{◌≡◌, ◌%◌, ◌<◌, ◌≤◌, ◌^◌, ◌&&◌, not, if◌then◌else◌, [], All, IfOk, IfSome, length, map, position, slice_index_or, slice_set};
+ghost use Rattle.std.specs.Prelude.{◌≡◌, ◌%◌, ◌<◌, ◌≤◌, ◌&&◌, not, if◌then◌else◌, [], All, IfOk, IfSome, length, map, position, slice_index_or, slice_set};
 ghost use Rattle.std.specs.List.{list_any};
-ghost use Rattle.guest_ram.specs.Bytes.{HasPart, with_part};
-ghost use Rattle.byteorder.specs.Endian.{little_bytes};
-ghost use Rattle.hart_step.specs.Answers.{after_access, given_by};
+ghost use Rattle.guest_ram.specs.Bytes.{HasPart};
+ghost use Rattle.hart_step.specs.Clauses.{CoreLeaves, step_by};
 ghost use Rattle.hart_step.specs.DebugReset.{debug_core};
-ghost use Rattle.hart_step.specs.Events.{IsEvent};
 ghost use Rattle.hart_step.specs.Fit.{IsFit, IsWellFormed};
 ghost use Rattle.hart_step.specs.Harts.{hart_of, is_in_debug, lowest_in_debug, reset_core, reset_hart};
 ghost use Rattle.hart_step.specs.Memory.{most_rom};
-ghost use Rattle.hart_step.specs.Step.{after_store, host_cleared, rom_after, step, stored_by, unreserved, unreserved_hart, without_reservation};
+ghost use Rattle.hart_step.specs.Step.{after_store, host_cleared, unreserved, unreserved_hart, without_reservation};
 
 use crate::answers::Answers;
 use crate::event::{Event, Put};
@@ -190,16 +188,8 @@ impl Core {
     pub fn step<A: Answers>(&mut self, h: u8, answers: &mut A) -> Event
         requires hart { h < length self.old.harts }
         requires ready { A.ready answers.old h }
-        ensures event { result ≡ (step (given_by A.interrupts A.devices A.volatiles A.wins answers.old h
-            (hart_of self.old h)) self.old h).event }
-        ensures formed { IsEvent result }
-        ensures core { self.new ≡ (step (given_by A.interrupts A.devices A.volatiles A.wins answers.old h
-            (hart_of self.old h)) self.old h).core }
-        ensures harts { length self.new.harts ≡ length self.old.harts }
-        ensures ram { length self.new.ram ≡ length self.old.ram }
-        ensures outside { answers.new ≡ after_access A.loaded A.stored answers.old h self.new.ram
-            (step (given_by A.interrupts A.devices A.volatiles A.wins answers.old h
-            (hart_of self.old h)) self.old h).access }
+        ensures { CoreLeaves A.after answers.old answers.new h self.old self.new result
+            (step_by (A.says answers.old h) self.old h) }
     {
         let mut event = Event::Host { word: 0 };
         self.step_into(h, answers, &mut event);
@@ -211,38 +201,17 @@ impl Core {
     pub fn step_into<A: Answers>(&mut self, h: u8, answers: &mut A, event: &mut Event)
         requires hart { h < length self.old.harts }
         requires ready { A.ready answers.old h }
-        ensures event { event.new ≡ (step (given_by A.interrupts A.devices A.volatiles A.wins answers.old h
-            (hart_of self.old h)) self.old h).event }
-        ensures formed { IsEvent event.new }
-        ensures core { self.new ≡ (step (given_by A.interrupts A.devices A.volatiles A.wins answers.old h
-            (hart_of self.old h)) self.old h).core }
-        ensures harts { length self.new.harts ≡ length self.old.harts }
-        ensures ram { length self.new.ram ≡ length self.old.ram }
-        ensures outside { answers.new ≡ after_access A.loaded A.stored answers.old h self.new.ram
-            (step (given_by A.interrupts A.devices A.volatiles A.wins answers.old h
-            (hart_of self.old h)) self.old h).access }
+        ensures { CoreLeaves A.after answers.old answers.new h self.old self.new event.new
+            (step_by (A.says answers.old h) self.old h) }
     {
         let count = self.harts();
         let hart = &mut self.harts[h as usize];
         let was_in_debug = hart.is_in_debug();
-        step_hart(h, count, hart, &mut self.memory, answers, event);
+        let stored = step_hart(h, count, hart, &mut self.memory, answers, event);
         see_hart(hart);
         let left_debug = has_left_debug(was_in_debug, hart);
-        lose_reservations(&mut self.harts, h, stored(event));
+        lose_reservations(&mut self.harts, h, stored);
         close_rom(&mut self.memory, left_debug, &self.harts);
-    }
-}
-
-/// What an event shows as stored.
-#[inline(always)]
-fn stored(event: &Event) -> Option<Put>
-    ensures { result ≡ stored_by event.now }
-{
-    match event {
-        Event::Commit { st, .. } => *st,
-        Event::Exception { .. } => None,
-        Event::Interrupt { .. } => None,
-        Event::Host { .. } => None,
     }
 }
 

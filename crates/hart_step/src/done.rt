@@ -125,13 +125,13 @@ impl Stored {
 /// it as a record of these five.
 #[derive(Drop)]
 pub(crate) struct Done {
-    shown: Shown,
+    kind: DoneKind,
 }
 
 /// The same by what there is beside the register: nothing with most instructions, and a way of their own to
 /// the event is what makes them fast.
 #[derive(Drop)]
-enum Shown {
+enum DoneKind {
     /// Nothing more.
     Register(Written),
     /// What was stored.
@@ -146,11 +146,11 @@ enum Shown {
 }
 
 impl Model for Done {
-    ghost use Rattle.hart_step.specs.Shown.{Done as Seen, seen};
+    ghost use Rattle.hart_step.specs.Done.{Done as Did, done_of};
 
-    ghost Value = { Seen };
+    ghost Value = { Did };
 
-    ghost view = { λ d. seen d.shown };
+    ghost view = { λ d. done_of d.kind };
 }
 
 impl Done {
@@ -160,7 +160,7 @@ impl Done {
         ensures { result ≡ record { rd = rd; st = None; dv = None; vl = None; wrote = None } }
     {
         Done {
-            shown: Shown::Register(rd),
+            kind: DoneKind::Register(rd),
         }
     }
 
@@ -170,7 +170,7 @@ impl Done {
         ensures { result ≡ record { rd = rd; st = Some st; dv = None; vl = None; wrote = None } }
     {
         Done {
-            shown: Shown::Store(rd, st),
+            kind: DoneKind::Store(rd, st),
         }
     }
 
@@ -180,7 +180,7 @@ impl Done {
         ensures { result ≡ record { rd = rd; st = None; dv = Some word; vl = None; wrote = None } }
     {
         Done {
-            shown: Shown::Access {
+            kind: DoneKind::Access {
                 rd,
                 dv: Some(word),
                 vl: None,
@@ -195,7 +195,7 @@ impl Done {
         ensures { result ≡ record { rd = rd; st = None; dv = None; vl = vl; wrote = wrote } }
     {
         Done {
-            shown: Shown::Access {
+            kind: DoneKind::Access {
                 rd,
                 dv: None,
                 vl,
@@ -205,7 +205,7 @@ impl Done {
     }
 
     /// Writes the commit of the word `insn` in the place of another event, and gives the control and status
-    /// register that was written.
+    /// register that was written, and what was stored.
     #[inline(always)]
     pub(crate) fn show(
         self,
@@ -214,32 +214,34 @@ impl Done {
         mode: Priv,
         pc: u64,
         insn: u32,
-    ) -> Option<u16>
+    ) -> (Option<u16>, Option<Put>)
         requires number { hart < 8 }
         requires formed { IsDone self }
         ensures event { event.new ≡ Commit hart mode pc insn self.rd self.st self.dv self.vl }
         ensures formed { IsEvent event.new }
-        ensures wrote { result ≡ self.wrote }
+        ensures wrote { result.0 ≡ self.wrote }
+        ensures stored { result.1 ≡ self.st }
     {
-        match self.shown {
-            Shown::Register(rd) => {
+        match self.kind {
+            DoneKind::Register(rd) => {
                 show_register(event, hart, mode, pc, insn, rd);
-                None
+                (None, None)
             }
-            Shown::Store(rd, st) => {
+            DoneKind::Store(rd, st) => {
+                let put = st.put();
                 *event = Event::Commit {
                     hart,
                     mode,
                     pc,
                     insn,
                     rd: rd.shown(),
-                    st: Some(st.put()),
+                    st: Some(put),
                     dv: None,
                     vl: None,
                 };
-                None
+                (None, Some(put))
             }
-            Shown::Access { rd, dv, vl, wrote } => {
+            DoneKind::Access { rd, dv, vl, wrote } => {
                 *event = Event::Commit {
                     hart,
                     mode,
@@ -250,7 +252,7 @@ impl Done {
                     dv,
                     vl,
                 };
-                wrote
+                (wrote, None)
             }
         }
     }

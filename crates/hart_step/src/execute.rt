@@ -1,11 +1,12 @@
 // What each instruction does.
 
-ghost use Rattle.std.specs.Prelude.{◌≡◌, ◌%◌, ◌≤◌, IfOk, length};
+ghost use Rattle.std.specs.Prelude.{◌≡◌, ◌%◌, ◌≤◌, IfOk};
 ghost use Rattle.rv_decode.specs.Ranges.{IsInRange};
 ghost use Rattle.hart_step.specs.Answers.{given_by};
+ghost use Rattle.hart_step.specs.Clauses.{Keeps};
 ghost use Rattle.hart_step.specs.Effects.{Leaves, effect};
 ghost use Rattle.hart_step.specs.Events.{IsDone};
-ghost use Rattle.hart_step.specs.Harts.{IsFitHart, StaysFit};
+ghost use Rattle.hart_step.specs.Harts.{IsFitHart};
 
 use crate::access::{Extension, Site, load, store};
 use crate::answers::Answers;
@@ -37,13 +38,15 @@ pub(crate) fn execute<A: Answers>(
     requires harts { site.harts ≤ 8 }
     requires length { site.len % 2 ≡ 0 }
     requires fit { IsFitHart hart.old }
-    ensures leaves { Leaves A.loaded A.stored answers.old answers.new site.hart hart.new memory.new result
-        (effect (given_by A.interrupts A.devices A.volatiles A.wins answers.old site.hart hart.old)
-        site.harts site.len site.word insn hart.old memory.old) }
+    ensures leaves { Leaves A.after answers.old answers.new site.hart hart.old hart.new memory.old memory.new result
+        (effect (record {
+          given = given_by (A.says answers.old site.hart) hart.old;
+          harts = site.harts;
+          word = site.word;
+          len = site.len;
+        }) insn hart.old memory.old) }
     ensures formed { IfOk result IsDone }
-    ensures length { length memory.new.ram ≡ length memory.old.ram }
-    ensures rom { memory.new.rom ≡ memory.old.rom }
-    ensures fit { StaysFit hart.old hart.new }
+    ensures keeps { Keeps hart.old hart.new memory.old memory.new }
 {
     let next = following(hart, site.len);
     match insn {

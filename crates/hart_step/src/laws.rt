@@ -1,6 +1,6 @@
 // Laws of the definitions, each as the contract of a call that does nothing.
 
-ghost use Rattle.hart_step.specs.Laws.{DebugResetIsFit, HostStaysFit, ResetIsFit, StepsStayFit, UnreservedStaysFit};
+ghost use Rattle.hart_step.specs.Laws.{DebugResetIsFit, EventsShowStores, HostStaysFit, ResetIsFit, StepsStayFit, UnreservedStaysFit};
 ghost use Rattle.hart_step.specs.Told.{EffectsFollow, StepsFollow};
 
 /// Every step of a well-formed core, where it is given what the manuals allow, leaves a well-formed
@@ -19,6 +19,11 @@ pub fn changes_stay_fit()
 pub fn reset_is_fit()
     ensures reset { ResetIsFit }
     ensures debug { DebugResetIsFit }
+{}
+
+/// What a step of a hart stored, by which other harts lose their reservations, is what its event shows.
+pub fn events_show_stores()
+    ensures { EventsShowStores }
 {}
 
 /// An instruction that is told what another carrying out of it showed does the same, also on a hart that

@@ -28,4 +28,7 @@ pub use answers::Answers;
 pub use cores::{Core, NoMemory};
 pub use event::{Event, Priv, Put};
 pub use hart::Hart;
-pub use laws::{changes_stay_fit, effects_follow, reset_is_fit, steps_follow, steps_stay_fit};
+pub use laws::{
+    changes_stay_fit, effects_follow, events_show_stores, reset_is_fit, steps_follow,
+    steps_stay_fit,
+};

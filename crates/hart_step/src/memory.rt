@@ -3,6 +3,7 @@
 ghost use Rattle.std.specs.Prelude.{◌≡◌, ◌==◌, ◌+◌, ◌%◌, ◌^◌, ◌<◌, ◌*◌, IfOk, IsTrue, Ok, length, ◌≤◌, []};
 ghost use Rattle.byteorder.specs.Endian.{little_bytes};
 ghost use Rattle.guest_ram.specs.Bytes.{IsSize, has_part, number_at, with_part};
+ghost use Rattle.hart_step.specs.Clauses.{Locates, Translates};
 ghost use Rattle.hart_step.specs.Fit.{AreBytes};
 ghost use Rattle.hart_step.specs.Memory.{data_address, most_rom, physical, ram_address, rom_holds, rom_number};
 ghost use Rattle.sv39_walk.specs.Remembered.{Agrees};
@@ -18,7 +19,7 @@ use guest_ram::{BASE, GuestRam, PageTable};
 use rv_alu::Mode;
 use std::marker::Model;
 use sv39_walk::{Ctx, Kind, Walker, agrees_kept};
-use trap_rules::{has, mstatus};
+use trap_rules::{has_any, mstatus};
 
 /// The physical address of the first byte of the boot ROM.
 pub(crate) const ROM_BASE: u64 = 0x1_0000;
@@ -95,9 +96,7 @@ impl Memory {
         kind: Kind,
         va: u64,
     ) -> Result<u64, Exception>
-        ensures address { result ≡ physical mode kind hart.now self.old.ram va }
-        ensures place { IfOk result (λ at. at % 4096 ≡ va % 4096) }
-        ensures same { self.new ≡ self.old }
+        ensures { Translates va self.old self.new result (physical mode kind hart.now self.old.ram va) }
     {
         match mode {
             Mode::M => Ok(va),
@@ -108,16 +107,14 @@ impl Memory {
     /// The physical address of an access to `va` in a mode, by the walker.
     #[inline(always)]
     fn translated(&mut self, hart: &Hart, mode: Mode, kind: Kind, va: u64) -> Result<u64, Exception>
-        ensures address { result ≡ physical mode kind hart.now self.old.ram va }
-        ensures place { IfOk result (λ at. at % 4096 ≡ va % 4096) }
-        ensures same { self.new ≡ self.old }
+        ensures { Translates va self.old self.new result (physical mode kind hart.now self.old.ram va) }
     {
         let status = mstatus(&hart.csrs);
         let ctx = Ctx {
             mode,
             satp: satp(&hart.csrs),
-            sum: has(status, MSTATUS_SUM),
-            mxr: has(status, MSTATUS_MXR),
+            sum: has_any(status, MSTATUS_SUM),
+            mxr: has_any(status, MSTATUS_MXR),
         };
         let mut table = PageTable::new(&self.ram);
         match self.walker.translate(&mut table, ctx, va, kind) {
@@ -136,9 +133,7 @@ impl Memory {
         va: u64,
     ) -> Result<u64, Exception>
         requires { IsSize size }
-        ensures address { result ≡ data_address kind size hart.now self.old.ram va }
-        ensures aligned { IfOk result (λ at. at % size ≡ 0) }
-        ensures same { self.new ≡ self.old }
+        ensures { Locates size self.old self.new result (data_address kind size hart.now self.old.ram va) }
     {
         if !is_aligned(va, size) {
             return Err(Exception::misaligned(kind, va));
@@ -157,7 +152,7 @@ impl Memory {
         ensures aligned { IsTrue result → va % size ≡ 0 }
         ensures inside { IsTrue result → IsTrue (has_part self.now.ram va size) }
     {
-        let in_machine_mode = hart.mode == Mode::M && !has(mstatus(&hart.csrs), MSTATUS_MPRV);
+        let in_machine_mode = hart.mode == Mode::M && !has_any(mstatus(&hart.csrs), MSTATUS_MPRV);
         is_aligned(va, size) && in_machine_mode && self.holds(va, size)
     }
 
@@ -171,10 +166,8 @@ impl Memory {
         va: u64,
     ) -> Result<u64, Exception>
         requires { IsSize size }
-        ensures address { result ≡ ram_address kind size hart.now self.old.ram va }
-        ensures aligned { IfOk result (λ at. at % size ≡ 0) }
+        ensures locates { Locates size self.old self.new result (ram_address kind size hart.now self.old.ram va) }
         ensures inside { IfOk result (λ at. IsTrue (has_part self.old.ram at size)) }
-        ensures same { self.new ≡ self.old }
     {
         let at = self.data_address(hart, kind, size, va)?;
         if self.ram.has(at, u64::from(size)) {

@@ -7,7 +7,7 @@ ghost use Rattle.hart_step.specs.Memory.{acting_mode, data_mode};
 use crate::hart::Hart;
 use csr_file::masks::{MSTATUS_MPRV, MSTATUS_TSR, MSTATUS_TVM, MSTATUS_TW};
 use rv_alu::Mode;
-use trap_rules::{has, machine_previous, mstatus};
+use trap_rules::{has_any, machine_previous, mstatus};
 
 impl Hart {
     /// The mode in which the hart fetches and carries out instructions: debug mode counts as machine
@@ -33,7 +33,7 @@ impl Hart {
             return Mode::M;
         }
         let status = mstatus(&self.csrs);
-        if has(status, MSTATUS_MPRV) {
+        if has_any(status, MSTATUS_MPRV) {
             machine_previous(status)
         } else {
             self.mode
@@ -61,7 +61,7 @@ impl Hart {
     pub(crate) fn may_wait(&self) -> bool
         ensures { result ≡ may_wait self.now }
     {
-        self.acting_mode() == Mode::M || !has(mstatus(&self.csrs), MSTATUS_TW)
+        self.acting_mode() == Mode::M || !has_any(mstatus(&self.csrs), MSTATUS_TW)
     }
 
     /// Whether `sfence.vma` is legal now.
@@ -79,7 +79,7 @@ pub(crate) fn is_open(mask: u64, status: u64, mode: Mode) -> bool
 {
     match mode {
         Mode::U => false,
-        Mode::S => !has(status, mask),
+        Mode::S => !has_any(status, mask),
         Mode::M => true,
     }
 }

@@ -1,16 +1,17 @@
 // One step of a hart.
 
-ghost use Rattle.std.specs.Prelude.{◌≡◌, ◌<◌, ◌≤◌, IsFalse, IsNone, Ok, length};
+ghost use Rattle.std.specs.Prelude.{◌≡◌, ◌<◌, ◌≤◌, IsFalse, IsNone};
 ghost use Rattle.trap_rules.specs.Interrupt.{MayCome};
 ghost use Rattle.hart_step.specs.Answers.{given_by};
+ghost use Rattle.hart_step.specs.Clauses.{Keeps};
 ghost use Rattle.hart_step.specs.declared.event.Event.{Event as EventOf};
 ghost use Rattle.hart_step.specs.Events.{IsEvent};
 ghost use Rattle.hart_step.specs.Harts.{IsFitHart, StaysFit};
-ghost use Rattle.hart_step.specs.Step.{StepLeaves, enters, fetched, first_of, from_fetched, hart_step, retired, traps};
+ghost use Rattle.hart_step.specs.Step.{StepLeaves, carried_out, enters, first_of, hart_step, instruction_step, or_raises, retired, traps};
 
 use crate::access::Site;
 use crate::answers::Answers;
-use crate::event::{Event, Priv};
+use crate::event::{Event, Priv, Put};
 use crate::exception::Exception;
 use crate::execute::execute;
 use crate::fetch::{Decoded, decode_parcels, fetch};
@@ -79,7 +80,7 @@ fn retire(hart: &mut Hart, was_in_debug: bool, wrote: Option<u16>)
     }
 }
 
-/// Carries out the instruction that two fetched parcels begin with.
+/// Carries out the instruction that two fetched parcels begin with, and answers what it stored.
 #[inline(always)]
 fn carry_out<A: Answers>(
     h: u8,
@@ -89,18 +90,17 @@ fn carry_out<A: Answers>(
     memory: &mut Memory,
     answers: &mut A,
     event: &mut Event,
-)
+) -> Option<Put>
     requires ready { A.ready answers.old h }
     requires number { h < 8 }
     requires harts { harts ≤ 8 }
     requires fit { IsFitHart hart.old }
-    ensures leaves { StepLeaves A.loaded A.stored answers.old answers.new h hart.new memory.new event.new
-        (from_fetched (given_by A.interrupts A.devices A.volatiles A.wins answers.old h hart.old)
-        harts h hart.old memory.old (Ok (first_of parcels))) }
+    ensures leaves { StepLeaves A.after answers.old answers.new h hart.new memory.new event.new result
+        (or_raises h hart.old memory.old (carried_out
+        (given_by (A.says answers.old h) hart.old)
+        harts h hart.old memory.old (first_of parcels))) }
     ensures formed { IsEvent event.new }
-    ensures length { length memory.new.ram ≡ length memory.old.ram }
-    ensures rom { memory.new.rom ≡ memory.old.rom }
-    ensures fit { StaysFit hart.old hart.new }
+    ensures keeps { Keeps hart.old hart.new memory.old memory.new }
 {
     let pc = hart.pc;
     let mode = hart.privilege();
@@ -109,7 +109,7 @@ fn carry_out<A: Answers>(
     let Some(insn) = insn else {
         let exception = Exception::illegal(word);
         take_exception(h, hart, mode, pc, &exception, event);
-        return;
+        return None;
     };
     let site = Site {
         hart: h,
@@ -119,14 +119,19 @@ fn carry_out<A: Answers>(
     };
     match execute(site, insn, hart, memory, answers) {
         Ok(done) => {
-            let wrote = done.show(event, h, mode, pc, word);
+            let (wrote, stored) = done.show(event, h, mode, pc, word);
             retire(hart, was_in_debug, wrote);
+            stored
         }
-        Err(exception) => take_exception(h, hart, mode, pc, &exception, event),
+        Err(exception) => {
+            take_exception(h, hart, mode, pc, &exception, event);
+            None
+        }
     }
 }
 
-/// Fetches one instruction of hart number `h`, on a board of `harts` harts, and carries it out.
+/// Fetches one instruction of hart number `h`, on a board of `harts` harts, carries it out, and answers what
+/// it stored.
 #[inline(always)]
 fn run_instruction<A: Answers>(
     h: u8,
@@ -135,18 +140,16 @@ fn run_instruction<A: Answers>(
     memory: &mut Memory,
     answers: &mut A,
     event: &mut Event,
-)
+) -> Option<Put>
     requires ready { A.ready answers.old h }
     requires number { h < 8 }
     requires harts { harts ≤ 8 }
     requires fit { IsFitHart hart.old }
-    ensures leaves { StepLeaves A.loaded A.stored answers.old answers.new h hart.new memory.new event.new
-        (from_fetched (given_by A.interrupts A.devices A.volatiles A.wins answers.old h hart.old)
-        harts h hart.old memory.old (fetched hart.old memory.old)) }
+    ensures leaves { StepLeaves A.after answers.old answers.new h hart.new memory.new event.new result
+        (instruction_step (given_by (A.says answers.old h) hart.old)
+        harts h hart.old memory.old) }
     ensures formed { IsEvent event.new }
-    ensures length { length memory.new.ram ≡ length memory.old.ram }
-    ensures rom { memory.new.rom ≡ memory.old.rom }
-    ensures fit { StaysFit hart.old hart.new }
+    ensures keeps { Keeps hart.old hart.new memory.old memory.new }
 {
     match fetch(hart, memory) {
         Ok(parcels) => carry_out(h, harts, parcels, hart, memory, answers, event),
@@ -154,12 +157,13 @@ fn run_instruction<A: Answers>(
             let pc = hart.pc;
             let mode = hart.privilege();
             take_exception(h, hart, mode, pc, &exception, event);
+            None
         }
     }
 }
 
 /// Takes one step of hart number `h`, on a board of `harts` harts: the interrupt that is given, or else
-/// one instruction.
+/// one instruction. Answers what was stored.
 #[tactic(auto, using(crate::proofs::Causes::taken_small, crate::proofs::Outside::taken_outside), unfolding(crate::specs::Step::hart_step))]
 #[inline(always)]
 pub(crate) fn step_hart<A: Answers>(
@@ -169,23 +173,22 @@ pub(crate) fn step_hart<A: Answers>(
     memory: &mut Memory,
     answers: &mut A,
     event: &mut Event,
-)
+) -> Option<Put>
     requires ready { A.ready answers.old h }
     requires number { h < 8 }
     requires harts { harts ≤ 8 }
     requires fit { IsFitHart hart.old }
-    ensures leaves { StepLeaves A.loaded A.stored answers.old answers.new h hart.new memory.new event.new
-        (hart_step (given_by A.interrupts A.devices A.volatiles A.wins answers.old h hart.old)
+    ensures leaves { StepLeaves A.after answers.old answers.new h hart.new memory.new event.new result
+        (hart_step (given_by (A.says answers.old h) hart.old)
         harts h hart.old memory.old) }
     ensures formed { IsEvent event.new }
-    ensures length { length memory.new.ram ≡ length memory.old.ram }
-    ensures rom { memory.new.rom ≡ memory.old.rom }
-    ensures fit { StaysFit hart.old hart.new }
+    ensures keeps { Keeps hart.old hart.new memory.old memory.new }
 {
     match answers.interrupt(h, &hart.csrs, hart.mode) {
         Some(cause) => {
             enter_trap(hart, Cause::Interrupt(cause), 0);
             *event = Event::Interrupt { hart: h, cause };
+            None
         }
         None => run_instruction(h, harts, hart, memory, answers, event),
     }

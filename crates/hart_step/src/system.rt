@@ -1,11 +1,11 @@
 // Privileged instructions.
 
-ghost use Rattle.std.specs.Prelude.{◌≡◌, IsTrue, IfOk, Ok};
+ghost use Rattle.std.specs.Prelude.{IsTrue};
 ghost use Rattle.trap_rules.specs.Return.{debug_returned, machine_returned, resumed_mode, resumed_pc, supervisor_returned};
 ghost use Rattle.trap_rules.specs.Status.{machine_previous, supervisor_previous};
+ghost use Rattle.hart_step.specs.Clauses.{CarriesOut};
 ghost use Rattle.hart_step.specs.Effects.{may_return_machine, may_return_supervisor, resumed, shows_nothing};
-ghost use Rattle.hart_step.specs.Events.{IsDone};
-ghost use Rattle.hart_step.specs.Harts.{is_in_debug, IsFitHart, StaysFit};
+ghost use Rattle.hart_step.specs.Harts.{is_in_debug, IsFitHart};
 
 use crate::control::pass;
 use crate::done::Done;
@@ -19,11 +19,9 @@ use trap_rules::{dret, mret, sret};
 pub(crate) fn return_machine(hart: &mut Hart) -> Result<Done, Exception>
     requires legal { IsTrue (may_return_machine hart.old) }
     requires fit { IsFitHart hart.old }
-    ensures hart { hart.new ≡ resumed (machine_returned hart.old.csrs)
-        (machine_previous hart.old.csrs.mstatus) hart.old.csrs.mepc hart.old }
-    ensures shown { result ≡ Ok shows_nothing }
-    ensures formed { IfOk result IsDone }
-    ensures fit { StaysFit hart.old hart.new }
+    ensures { CarriesOut hart.old hart.new result
+        (resumed (machine_returned hart.old.csrs) (machine_previous hart.old.csrs.kept.mstatus) hart.old.csrs.kept.mepc hart.old)
+        shows_nothing }
 {
     let (mode, pc) = mret(&mut hart.csrs);
     hart.mode = mode;
@@ -36,11 +34,9 @@ pub(crate) fn return_machine(hart: &mut Hart) -> Result<Done, Exception>
 pub(crate) fn return_supervisor(hart: &mut Hart) -> Result<Done, Exception>
     requires legal { IsTrue (may_return_supervisor hart.old) }
     requires fit { IsFitHart hart.old }
-    ensures hart { hart.new ≡ resumed (supervisor_returned hart.old.csrs)
-        (supervisor_previous hart.old.csrs.mstatus) hart.old.csrs.sepc hart.old }
-    ensures shown { result ≡ Ok shows_nothing }
-    ensures formed { IfOk result IsDone }
-    ensures fit { StaysFit hart.old hart.new }
+    ensures { CarriesOut hart.old hart.new result
+        (resumed (supervisor_returned hart.old.csrs) (supervisor_previous hart.old.csrs.kept.mstatus) hart.old.csrs.kept.sepc hart.old)
+        shows_nothing }
 {
     let (mode, pc) = sret(&mut hart.csrs);
     hart.mode = mode;
@@ -53,11 +49,9 @@ pub(crate) fn return_supervisor(hart: &mut Hart) -> Result<Done, Exception>
 pub(crate) fn return_debug(hart: &mut Hart) -> Result<Done, Exception>
     requires legal { IsTrue (is_in_debug hart.old) }
     requires fit { IsFitHart hart.old }
-    ensures hart { hart.new ≡ resumed (debug_returned hart.old.csrs)
-        (resumed_mode hart.old.csrs.debug) (resumed_pc hart.old.csrs.debug) hart.old }
-    ensures shown { result ≡ Ok shows_nothing }
-    ensures formed { IfOk result IsDone }
-    ensures fit { StaysFit hart.old hart.new }
+    ensures { CarriesOut hart.old hart.new result
+        (resumed (debug_returned hart.old.csrs) (resumed_mode hart.old.csrs.debug) (resumed_pc hart.old.csrs.debug) hart.old)
+        shows_nothing }
 {
     let (mode, pc) = dret(&mut hart.csrs);
     hart.mode = mode;

@@ -33,7 +33,7 @@ fn may_access(hart: &Hart, csr: u16, writes: bool) -> bool
 fn given_word<A: Answers>(site: Site, hart: &Hart, answers: &mut A, reads: bool, csr: u16) -> u64
     requires ready { A.ready answers.old site.hart }
     ensures word { result ≡ given_word
-        (given_by A.interrupts A.devices A.volatiles A.wins answers.old site.hart hart.now) reads csr }
+        (given_by (A.says answers.old site.hart) hart.now) reads csr }
     ensures within { IsGiven csr result }
     ensures same { answers.new ≡ answers.old }
 {
@@ -96,7 +96,7 @@ fn access(site: Site, hart: &mut Hart, rd: u8, wanted: Wanted) -> Result<Done, E
     requires writable { IsTrue wanted.writes → IsFalse (is_read_only wanted.csr) }
     requires within { IsGiven wanted.csr wanted.seen }
     requires fit { IsFitHart hart.old }
-    ensures leaves { LeavesCsr hart.new result
+    ensures leaves { LeavesCsr hart.old hart.new result
         (accesses site.len site.word rd wanted.csr wanted.reads wanted.writes wanted.seen wanted.value hart.old) }
     ensures formed { IfOk result IsDone }
     ensures fit { StaysFit hart.old hart.new }
@@ -128,8 +128,8 @@ pub(crate) fn write_csr<A: Answers>(
     requires register { rd < 32 }
     requires length { site.len % 2 ≡ 0 }
     requires fit { IsFitHart hart.old }
-    ensures leaves { LeavesCsr hart.new result (writes_csr
-        (given_by A.interrupts A.devices A.volatiles A.wins answers.old site.hart hart.old)
+    ensures leaves { LeavesCsr hart.old hart.new result (writes_csr
+        (given_by (A.says answers.old site.hart) hart.old)
         site.len site.word rd csr value hart.old) }
     ensures formed { IfOk result IsDone }
     ensures same { answers.new ≡ answers.old }
@@ -165,8 +165,8 @@ pub(crate) fn set_csr<A: Answers>(
     requires register { rd < 32 }
     requires length { site.len % 2 ≡ 0 }
     requires fit { IsFitHart hart.old }
-    ensures leaves { LeavesCsr hart.new result (sets_csr
-        (given_by A.interrupts A.devices A.volatiles A.wins answers.old site.hart hart.old)
+    ensures leaves { LeavesCsr hart.old hart.new result (sets_csr
+        (given_by (A.says answers.old site.hart) hart.old)
         site.len site.word rd csr writes value hart.old) }
     ensures formed { IfOk result IsDone }
     ensures same { answers.new ≡ answers.old }
@@ -201,8 +201,8 @@ pub(crate) fn clear_csr<A: Answers>(
     requires register { rd < 32 }
     requires length { site.len % 2 ≡ 0 }
     requires fit { IsFitHart hart.old }
-    ensures leaves { LeavesCsr hart.new result (clears_csr
-        (given_by A.interrupts A.devices A.volatiles A.wins answers.old site.hart hart.old)
+    ensures leaves { LeavesCsr hart.old hart.new result (clears_csr
+        (given_by (A.says answers.old site.hart) hart.old)
         site.len site.word rd csr writes value hart.old) }
     ensures formed { IfOk result IsDone }
     ensures same { answers.new ≡ answers.old }

@@ -5,12 +5,12 @@ use Rattle.board_bus.specs.Board.{hart_count}
 use Rattle.board_bus.specs.Laws.{LoadKeepsHarts, SendsAtMost, StoreKeepsHarts}
 use Rattle.hart_step.specs.declared.event.Event.{Event}
 use Rattle.hart_step.specs.Answers.{Access, Loads, Stores, Untouched, after_access}
-use Rattle.hart_step.specs.Harts.{hart_of}
-use Rattle.hart_step.specs.Step.{Answer, step}
+use Rattle.hart_step.specs.Clauses.{CoreLeaves, step_by}
+use Rattle.hart_step.specs.Step.{Answer}
 use Rattle.hart_turns.specs.declared.outside.Outside.{Outside}
 use Rattle.hart_turns.specs.declared.running.Running.{Running}
-use Rattle.hart_turns.specs.Gives.{board_after, board_gives, sent_by}
-use Rattle.hart_turns.specs.Kept.{AfterSteps, outside_loaded, outside_stored, progress_of}
+use Rattle.hart_turns.specs.Gives.{board_after, board_says, sent_by}
+use Rattle.hart_turns.specs.Kept.{AfterSteps, outside_after, progress_of}
 use Rattle.hart_turns.specs.Turn.{after_answer, one_step}
 
 -- what a device access makes of what stands around the harts
@@ -21,9 +21,9 @@ record Accessed (o new : Outside) (ram : List ℕ) (access : Access) : Type 0 wh
   harts : hart_count new.board ≡ hart_count o.board
   short : length new.output.bytes ≤ length o.output.bytes + 256
 
-accessed : LoadKeepsHarts → StoreKeepsHarts → SendsAtMost → (o : Outside) (h : ℕ) (ram : List ℕ) (access : Access) → Accessed o (after_access outside_loaded outside_stored o h ram access) ram access
+accessed : LoadKeepsHarts → StoreKeepsHarts → SendsAtMost → (o : Outside) (h : ℕ) (ram : List ℕ) (access : Access) → Accessed o (after_access (λ s h. outside_after s) o h ram access) ram access
 accessed loads stores sends o h ram Untouched = record { board = refl; bytes = sym (append-nil o.output.bytes); room = refl; harts = refl; short = omega arith }
-accessed loads stores sends o h ram (Loads at size) = record { board = refl; bytes = sym (append-nil o.output.bytes); room = refl; harts = loads o.board at size; short = omega arith }
+accessed loads stores sends o h ram (Loads at size) = record { board = refl; bytes = refl; room = refl; harts = loads o.board at size; short = let sum = length-append o.output.bytes [] in omega arith }
 accessed loads stores sends o h ram (Stores at size value) = record {
   board = refl;
   bytes = refl;
@@ -40,9 +40,9 @@ made before after event a access event_is core_is harts ram items places = recor
   events = ap length items ∙ length-append before.events.items (event ∷ []);
 }
 
-pub step_made : LoadKeepsHarts → StoreKeepsHarts → SendsAtMost → (before after : Running) (h : ℕ) (event : Event) → event ≡ (step (board_gives before.outside.board h (hart_of before.core h)) before.core h).event → after.core ≡ (step (board_gives before.outside.board h (hart_of before.core h)) before.core h).core → length after.core.harts ≡ length before.core.harts → length after.core.ram ≡ length before.core.ram → after.outside ≡ after_access outside_loaded outside_stored before.outside h after.core.ram (step (board_gives before.outside.board h (hart_of before.core h)) before.core h).access → after.events.items ≡ before.events.items ++ event ∷ [] → after.events.room ≡ before.events.room → AfterSteps before after (one_step h (progress_of before)) 1
+pub step_made : LoadKeepsHarts → StoreKeepsHarts → SendsAtMost → (before after : Running) (h : ℕ) (event : Event) → CoreLeaves (λ s h. outside_after s) before.outside after.outside h before.core after.core event (step_by (board_says before.outside.board h) before.core h) → after.events.items ≡ before.events.items ++ event ∷ [] → after.events.room ≡ before.events.room → AfterSteps before after (one_step h (progress_of before)) 1
 unfolding one_step
-step_made loads stores sends before after h event event_is core_is harts ram outside items places =
-    let a : Answer = step (board_gives before.outside.board h (hart_of before.core h)) before.core h in
-    let access : Accessed before.outside after.outside after.core.ram a.access = subst (λ (o : Outside). Accessed before.outside o after.core.ram a.access) (sym outside) (accessed loads stores sends before.outside h after.core.ram a.access) in
-    made before after event a access event_is core_is harts ram items places
+step_made loads stores sends before after h event s items places =
+    let a : Answer = step_by (board_says before.outside.board h) before.core h in
+    let access : Accessed before.outside after.outside after.core.ram a.access = subst (λ (o : Outside). Accessed before.outside o after.core.ram a.access) (sym s.outside) (accessed loads stores sends before.outside h after.core.ram a.access) in
+    made before after event a access s.event_is s.core_is s.harts s.ram items places

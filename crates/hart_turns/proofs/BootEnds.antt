@@ -10,7 +10,7 @@ use Rattle.hart_step.specs.declared.hart.Hart.{Hart}
 use Rattle.hart_step.specs.Answers.{Given}
 use Rattle.hart_step.specs.Events.{exception_of}
 use Rattle.hart_step.specs.Harts.{CoreState, hart_of, is_in_debug, reset_hart}
-use Rattle.hart_step.specs.Step.{HartAnswer, after_store, hart_step, memory_of, step, stored_by}
+use Rattle.hart_step.specs.Step.{HartAnswer, after_store, hart_step, memory_of, step}
 use Rattle.hart_turns.specs.declared.booting.BootFault.{BootFault}
 use Rattle.hart_turns.specs.Boot.{Booted, Booting, begins_boot, boot_hart, boot_harts, boot_step, booted, boots_next, most_steps, onward, step_exception}
 use Rattle.hart_turns.specs.Gives.{board_gives}
@@ -27,8 +27,8 @@ step_holds : (given : Given) (core : CoreState) (h : ℕ) → h < length core.ha
 unfolding step
 step_holds given core h within debugs e shown =
     let a : HartAnswer = hart_step given (length core.harts) h (hart_of core h) (memory_of core) in
-    let inside : h < length (after_store (stored_by a.event) core.harts) = omega (arith, after_length (stored_by a.event) core.harts) in
-    ap is_in_debug (get_or-set_same (after_store (stored_by a.event) core.harts) h a.hart (reset_hart 0 0) inside)
+    let inside : h < length (after_store a.stored core.harts) = omega (arith, after_length a.stored core.harts) in
+    ap is_in_debug (get_or-set_same (after_store a.stored core.harts) h a.hart (reset_hart 0 0) inside)
     ∙ hart_step_holds given (length core.harts) h (hart_of core h) (memory_of core) debugs e shown
 
 trap_holds : (h : ℕ) (b : Booting) (e : ℕ × ℕ) → In h b → step_exception h b ≡ Some e → In h (boot_step h b)

@@ -10,7 +10,7 @@ use Rattle.hart_step.specs.declared.event.Put.{Put}
 use Rattle.hart_step.specs.declared.hart.Hart.{Hart}
 use Rattle.hart_step.specs.Answers.{Given}
 use Rattle.hart_step.specs.Harts.{CoreState, hart_of, is_in_debug, reset_hart}
-use Rattle.hart_step.specs.Step.{HartAnswer, after_store, hart_step, is_touched, memory_of, step, stored_by, without_reservation}
+use Rattle.hart_step.specs.Step.{HartAnswer, after_store, hart_step, is_touched, memory_of, step, without_reservation}
 use Rattle.hart_turns.specs.declared.booting.BootFault.{BootFault}
 use Rattle.hart_turns.specs.Boot.{BootSteps, Booted, Booting, StepsAt, boot_hart, boot_harts, boot_step, boots_next, most_steps, onward, step_exception}
 use Rattle.hart_turns.specs.Gives.{board_gives}
@@ -36,7 +36,7 @@ pub others_stay : (given : Given) (core : CoreState) (h j : ℕ) → j ≢ h →
 unfolding step
 others_stay given core h j other =
     let a : HartAnswer = hart_step given (length core.harts) h (hart_of core h) (memory_of core) in
-    ap is_in_debug (get_or-set_other (after_store (stored_by a.event) core.harts) h j a.hart (reset_hart 0 0) other) ∙ after_at (stored_by a.event) core.harts j (reset_hart 0 0)
+    ap is_in_debug (get_or-set_other (after_store a.stored core.harts) h j a.hart (reset_hart 0 0) other) ∙ after_at a.stored core.harts j (reset_hart 0 0)
 
 pub after_length : (put : Option Put) (harts : List Hart) → length (after_store put harts) ≡ length harts
 after_length None harts = refl
@@ -46,7 +46,7 @@ pub harts_stay : (given : Given) (core : CoreState) (h : ℕ) → length (step g
 unfolding step
 harts_stay given core h =
     let a : HartAnswer = hart_step given (length core.harts) h (hart_of core h) (memory_of core) in
-    length-set (after_store (stored_by a.event) core.harts) h a.hart ∙ after_length (stored_by a.event) core.harts
+    length-set (after_store a.stored core.harts) h a.hart ∙ after_length a.stored core.harts
 
 -- ---- what each step keeps, a boot keeps
 

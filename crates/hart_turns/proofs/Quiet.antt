@@ -22,10 +22,10 @@ both_none : (b : Bool) (x y : Option ℕ) → x ≡ None → y ≡ None → cond
 both_none true x y first second = refl
 both_none false x y first second = ap (λ (o : Option ℕ). option_or o y) first ∙ second
 
-pub nothing_enabled : (r : Registers) (mode : Mode) (live : ℕ) → r.mie ≡ 0 → picked r mode live ≡ None
+pub nothing_enabled : (r : Registers) (mode : Mode) (live : ℕ) → r.kept.mie ≡ 0 → picked r mode live ≡ None
 unfolding picked
 nothing_enabled r mode live none =
-    let disabled : (n : ℕ) → has_bit r.mie n ≡ false = λ n. ap (λ (w : ℕ). has_bit w n) none ∙ no_bit n in
+    let disabled : (n : ℕ) → has_bit r.kept.mie n ≡ false = λ n. ap (λ (w : ℕ). has_bit w n) none ∙ no_bit n in
     both_none (is_some r.debug) _ _
-    (found_none (traps_to_machine r mode live) (λ n. blocked (is_machine_open r mode) (has_bit r.mip n || has_bit live n) (has_bit r.mie n) (not (has_bit r.mideleg n)) (disabled n)) interrupt_order)
-    (found_none (traps_to_supervisor r mode live) (λ n. blocked (is_supervisor_open r mode) (has_bit r.mip n || has_bit live n) (has_bit r.mie n) (has_bit r.mideleg n) (disabled n)) interrupt_order)
+    (found_none (traps_to_machine r mode live) (λ n. blocked (is_machine_open r mode) (has_bit r.kept.mip n || has_bit live n) (has_bit r.kept.mie n) (not (has_bit r.kept.mideleg n)) (disabled n)) interrupt_order)
+    (found_none (traps_to_supervisor r mode live) (λ n. blocked (is_supervisor_open r mode) (has_bit r.kept.mip n || has_bit live n) (has_bit r.kept.mie n) (has_bit r.kept.mideleg n) (disabled n)) interrupt_order)

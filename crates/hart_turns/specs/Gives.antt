@@ -8,9 +8,10 @@ use Rattle.csr_file.specs.View.{volatile_bits}
 use Rattle.trap_rules.specs.Interrupt.{picked}
 use Rattle.board_bus.specs.Board.{BoardState, after_load, live, loaded, sent, stored}
 use Rattle.hart_step.specs.declared.hart.Hart.{Hart}
-use Rattle.hart_step.specs.Answers.{Access, Given, Loads, Stores, Untouched}
-use Rattle.hart_step.specs.Harts.{CoreState, hart_of}
-use Rattle.hart_step.specs.Step.{Answer, step}
+use Rattle.hart_step.specs.Answers.{Access, Given, Loads, Says, Stores, Untouched, given_by}
+use Rattle.hart_step.specs.Clauses.{step_by}
+use Rattle.hart_step.specs.Harts.{CoreState}
+use Rattle.hart_step.specs.Step.{Answer}
 
 -- the interrupt that is taken under the signals which the devices drive
 abbrev pub board_interrupt : BoardState → ℕ → Registers → Mode → Option ℕ
@@ -25,25 +26,29 @@ board_device b at size = low_bytes size (unwrap_or (loaded b at size) 0)
 abbrev pub board_word : BoardState → ℕ → ℕ → Registers → ℕ
 board_word b h number csrs =
     if number == csr_time then b.clint.mtime
-    else if (number == csr_cycle) || (number == csr_mcycle) then csrs.mcycle
+    else if (number == csr_cycle) || (number == csr_mcycle) then csrs.kept.mcycle
     else live b h
 
 -- what it reads as, within its volatile bits
 abbrev pub board_volatile : BoardState → ℕ → ℕ → Registers → ℕ
 board_volatile b h number csrs = bit_and (board_word b h number csrs) (volatile_bits number)
 
--- what the board gives hart h; it lets each store-conditional win that may
-abbrev pub board_gives : BoardState → ℕ → Hart → Given
-board_gives b h hart = record {
-  interrupt = board_interrupt b h hart.csrs hart.mode;
+-- what the board says to hart h; it lets each store-conditional win that may
+abbrev pub board_says : BoardState → ℕ → Says
+board_says b h = record {
+  interrupt = board_interrupt b h;
   device = board_device b;
-  volatile = λ number. board_volatile b h number hart.csrs;
+  volatile = board_volatile b h;
   may_win = true;
 }
 
+-- what that gives a step of the hart
+abbrev pub board_gives : BoardState → ℕ → Hart → Given
+board_gives b h hart = given_by (board_says b h) hart
+
 -- what a step of hart h shows and leaves, under what the board gives it
 abbrev pub board_step : CoreState → BoardState → ℕ → Answer
-board_step core board h = step (board_gives board h (hart_of core h)) core h
+board_step core board h = step_by (board_says board h) core h
 
 -- the board after a step's device access
 abbrev pub board_after : BoardState → Access → BoardState

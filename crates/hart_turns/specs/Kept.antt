@@ -1,22 +1,22 @@
 -- What the code keeps of a turn.
 use Rattle.std.specs.Prelude.{◌≡◌, ℕ, ◌+◌, ◌*◌, ◌≤◌, List, ◌++◌, All, length}
-use Rattle.board_bus.specs.Board.{after_load, hart_count, sent, stored}
+use Rattle.board_bus.specs.Board.{hart_count}
+use Rattle.hart_step.specs.Answers.{Access}
 use Rattle.hart_step.specs.Events.{IsEvent}
 use Rattle.hart_turns.specs.declared.outside.Outside.{Outside}
 use Rattle.hart_turns.specs.declared.running.Running.{Running}
 use Rattle.sim_config.specs.declared.values.Shape.{Shape}
+use Rattle.hart_turns.specs.Gives.{board_after, sent_by}
 use Rattle.hart_turns.specs.Machine.{FitsShape}
 use Rattle.hart_turns.specs.Turn.{Progress}
 use Rattle.hart_turns.specs.Boot.{Booting, most_steps}
 
--- what stands around the harts after a load from a device register, and after a store to one
-abbrev pub outside_loaded : Outside → ℕ → ℕ → ℕ → Outside
-outside_loaded s h at size = record { board = after_load s.board at size; output = s.output }
-
-abbrev pub outside_stored : Outside → ℕ → ℕ → ℕ → ℕ → List ℕ → Outside
-outside_stored s h at size value ram = record {
-  board = stored s.board at size value;
-  output = record s.output { bytes = s.output.bytes ++ sent ram s.board at size value };
+-- what stands around the harts after a device access with this memory: the devices, and the console bytes beside
+-- those that it sent
+abbrev pub outside_after : Outside → List ℕ → Access → Outside
+outside_after s ram access = record {
+  board = board_after s.board access;
+  output = record s.output { bytes = s.output.bytes ++ sent_by ram s.board access };
 }
 
 -- what is kept of the turn, as the definitions see it

@@ -2,10 +2,8 @@
 
 ghost use Rattle.std.specs.Prelude.{◌≡◌, ◌<◌, ◌∷◌, ◌++◌, [], IfOk, length};
 ghost use Rattle.std.specs.Prelude.{All};
-ghost use Rattle.hart_step.specs.Answers.{after_access, given_by};
+ghost use Rattle.hart_step.specs.Clauses.{CoreLeaves, step_by};
 ghost use Rattle.hart_step.specs.Events.{IsEvent};
-ghost use Rattle.hart_step.specs.Harts.{hart_of};
-ghost use Rattle.hart_step.specs.Step.{step};
 
 use crate::machine::NoMemory;
 use hart_step::{Answers, Core, Event};
@@ -73,17 +71,13 @@ impl EventList {
         requires room { length self.old.items < self.old.room }
         requires hart { h < length core.old.harts }
         requires ready { A.ready answers.old h }
-        ensures items { self.new.items ≡ self.old.items ++ (step (given_by A.interrupts A.devices A.volatiles A.wins answers.old h
-            (hart_of core.old h)) core.old h).event ∷ [] }
+        ensures items { self.new.items
+            ≡ self.old.items ++ (step_by (A.says answers.old h) core.old h).event ∷ [] }
         ensures room { self.new.room ≡ self.old.room }
         ensures formed { All IsEvent self.old.items → All IsEvent self.new.items }
-        ensures core { core.new ≡ (step (given_by A.interrupts A.devices A.volatiles A.wins answers.old h
-            (hart_of core.old h)) core.old h).core }
-        ensures harts { length core.new.harts ≡ length core.old.harts }
-        ensures ram { length core.new.ram ≡ length core.old.ram }
-        ensures outside { answers.new ≡ after_access A.loaded A.stored answers.old h core.new.ram
-            (step (given_by A.interrupts A.devices A.volatiles A.wins answers.old h
-            (hart_of core.old h)) core.old h).access }
+        ensures leaves { CoreLeaves A.after answers.old answers.new h core.old core.new
+            (step_by (A.says answers.old h) core.old h).event
+            (step_by (A.says answers.old h) core.old h) }
     {
         core.step_into(h, answers, &mut self.places[self.count]);
         self.count += 1;

@@ -2,7 +2,6 @@
 
 ghost use Rattle.std.specs.Prelude.{◌≡◌, ◌<◌};
 ghost use Rattle.csr_file.specs.View.{IsGiven};
-ghost use Rattle.csr_file.specs.declared.registers.Registers.{Registers};
 ghost use Rattle.board_bus.specs.Board.{hart_count};
 ghost use Rattle.hart_turns.specs.Gives.{board_volatile, board_word};
 
@@ -24,26 +23,18 @@ pub(crate) struct Outside {
 }
 
 impl Answers for Outside {
-    ghost use Rattle.std.specs.Prelude.{◌<◌, ◌≤◌, true};
+    ghost use Rattle.std.specs.Prelude.{◌<◌, ◌≤◌};
     ghost use Rattle.console.specs.Access.{most_sent};
     ghost use Rattle.console.specs.Output.{spare_of};
     ghost use Rattle.board_bus.specs.Board.{hart_count};
-    ghost use Rattle.hart_turns.specs.Kept.{outside_loaded, outside_stored};
-    ghost use Rattle.hart_turns.specs.Gives.{board_device, board_interrupt, board_volatile};
+    ghost use Rattle.hart_turns.specs.Kept.{outside_after};
+    ghost use Rattle.hart_turns.specs.Gives.{board_says};
 
     ghost ready = { λ s h. (h < hart_count s.board) × (most_sent ≤ spare_of s.output) };
 
-    ghost interrupts = { λ s h csrs mode. board_interrupt s.board h csrs mode };
+    ghost says = { λ s h. board_says s.board h };
 
-    ghost devices = { λ s h at size. board_device s.board at size };
-
-    ghost volatiles = { λ s h number csrs. board_volatile s.board h number csrs };
-
-    ghost wins = { λ s h. true };
-
-    ghost loaded = { λ s h at size. outside_loaded s h at size };
-
-    ghost stored = { λ s h at size value ram. outside_stored s h at size value ram };
+    ghost after = { λ s h ram access. outside_after s ram access };
 
     #[tactic(auto, using(crate::proofs::Quiet::nothing_enabled), unfolding(csr_file::specs::View::volatile_bits))]
     #[inline(always)]

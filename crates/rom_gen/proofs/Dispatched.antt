@@ -1,5 +1,5 @@
 -- The dispatch leads each hart to its block.
-use Rattle.std.specs.Prelude.{pos, None, slice_set, slice_index, is_some, All}
+use Rattle.std.specs.Prelude.{pos, None, Ok, slice_set, slice_index, is_some, All}
 use Rattle.std.proofs.Common.{◌≡◌, ℕ, ◌+◌, ◌*◌, ◌%◌, ◌^◌, ◌<◌, ◌≤◌, true, List, [], ◌∷◌, ◌++◌, length, drop, refl, sym, ap, ◌∙◌, arith, subst, is_some, false}
 use Rattle.std.proofs.lemmas.Int.{ints}
 use Rattle.std.proofs.lemmas.List.{get_or-set_same, get_or-set_other, length-set, set-set, set_comm}
@@ -13,13 +13,13 @@ use Rattle.rv_decode.specs.Ranges.{IsInRange}
 use Rattle.csr_file.specs.declared.registers.Registers.{Registers}
 use Rattle.csr_file.specs.Access.{allows, may_access}
 use Rattle.csr_file.specs.Numbers.{csr_mhartid, is_listed}
-use Rattle.csr_file.specs.View.{is_volatile_number, view}
+use Rattle.csr_file.specs.View.{is_volatile_number, view, volatile_bits}
 use Rattle.hart_step.specs.declared.hart.Hart.{Hart}
 use Rattle.hart_step.specs.Answers.{Given, Untouched}
 use Rattle.hart_step.specs.Harts.{hart_of, is_in_debug, register, reset_hart}
 use Rattle.hart_step.specs.Memory.{MemoryState, most_rom, rom_base}
 use Rattle.hart_step.specs.Effects.{at_pc, effect, even_part, offset_by, pc_after, shows_write, with_write, writes}
-use Rattle.hart_step.specs.Step.{hart_step, memory_of, shows}
+use Rattle.hart_step.specs.Step.{hart_step, memory_of}
 use Rattle.hart_turns.specs.Boot.{Booting, Leads, boot_hart}
 use Rattle.hart_turns.proofs.BootSteps.{leads_join}
 use Rattle.rom_gen.specs.Items.{StandAt, code, Stands}
@@ -32,7 +32,7 @@ use Rattle.rom_gen.proofs.Forms.{go_step, pooled_effect}
 use Rattle.rom_gen.proofs.ItemSteps.{leads_quiet, stand_first, stand_second, code_length}
 use Rattle.rom_gen.proofs.Standing.{put_is, stands_put}
 use Rattle.rom_gen.proofs.Joins.{Does}
-use Rattle.rom_gen.proofs.Steps.{at_word, does_effect}
+use Rattle.rom_gen.proofs.Steps.{at_long, at_word, does_effect, shows}
 use Rattle.rom_gen.proofs.WordForms.{IsWord, modulo_12, word_long_fits, word_r_fits}
 use Rattle.rom_gen.proofs.RomParts.{entry_stands}
 
@@ -42,11 +42,11 @@ at_place hart xs p = record hart { x = xs; pc = rom_base + p }
 
 write_step : (given : Given) (n h : ℕ) (hart : Hart) (memory : MemoryState) (p r v : ℕ) (insn : Insn) (rest : List ℕ) → Stands memory hart p → given.interrupt ≡ None →
     IsInRange insn → IsWord (encoded insn) → drop p memory.rom ≡ little_bytes 4 (encoded insn) ++ rest →
-    effect given n 4 (encoded insn) insn hart memory ≡ writes r v (pc_after hart 4) hart memory →
+    effect (at_long given n (encoded insn)) insn hart memory ≡ Ok (writes r v (pc_after hart 4) hart memory) →
     Does memory (hart_step given n h hart memory) None (with_write hart r v (pc_after hart 4)) Untouched
 write_step given n h hart memory p r v insn rest stands none range word there is =
     subst (λ a. Does memory a None (with_write hart r v (pc_after hart 4)) Untouched)
-    (sym (at_word given n h hart memory p rest insn stands none range word there ∙ ap (shows h hart (encoded insn)) is))
+    (sym (at_word given n h hart memory p rest insn stands none range word there ∙ ap (shows h hart memory (encoded insn)) is))
     (does_effect h hart (with_write hart r v (pc_after hart 4)) memory (encoded insn) (writes r v (pc_after hart 4) hart memory) (shows_write r v) Untouched stands.debugs refl refl refl refl)
 
 -- n steps have led hart h to a place of the ROM
@@ -56,7 +56,7 @@ record Reaches (b : Booting) (h n p : ℕ) (hart : Hart) (xs : List ℕ) : Type 
 
 next_word : (b : Booting) (h n p r v : ℕ) (hart : Hart) (xs : List ℕ) (insn : Insn) (after : List Insn) → h < length b.core.harts → 0 < r → IsInRange insn →
     IsWord (encoded insn) → StandAt (code (insn ∷ after)) p b.core.rom →
-    ((given : Given) → effect given (length b.core.harts) 4 (encoded insn) insn (at_place hart xs p) (memory_of b.core) ≡ writes r v (pc_after (at_place hart xs p) 4) (at_place hart xs p) (memory_of b.core)) →
+    ((given : Given) → effect (at_long given (length b.core.harts) (encoded insn)) insn (at_place hart xs p) (memory_of b.core) ≡ Ok (writes r v (pc_after (at_place hart xs p) 4) (at_place hart xs p) (memory_of b.core))) →
     Reaches b h n p hart xs → Reaches b h (n + 1) (p + 4) hart (slice_set xs r v)
 next_word b h n p r v hart xs insn after inside some range word there does reached =
     let here : Hart = at_place hart xs p in
@@ -70,7 +70,7 @@ next_word b h n p r v hart xs insn after inside some range word there does reach
     let is : next ≡ at_place hart (slice_set xs r v) (p + 4) = put_is here r v (pc_after here 4) some ∙ ap (λ q. record hart { x = slice_set xs r v; pc = q }) pc in
     let on : Stands (memory_of b.core) next (p + 4) = stands_put (memory_of b.core) here p 4 r v reached.stands some within in
     let step : Leads h 1 b1 (becomes h 1 next b1) = leads_quiet b1 h here next (omega (arith, inside, same_harts)) (get_or-set_same b.core.harts h here (reset_hart 0 0) inside) reached.stands.debugs on.debugs
-    (λ given none. write_step given (length b1.core.harts) h here (memory_of b.core) p r v insn first.0 reached.stands none range word first.1 (subst (λ m. effect given m 4 (encoded insn) insn here (memory_of b.core) ≡ writes r v (pc_after here 4) here (memory_of b.core)) (sym same_harts) (does given))) in
+    (λ given none. write_step given (length b1.core.harts) h here (memory_of b.core) p r v insn first.0 reached.stands none range word first.1 (subst (λ m. effect (at_long given m (encoded insn)) insn here (memory_of b.core) ≡ Ok (writes r v (pc_after here 4) here (memory_of b.core))) (sym same_harts) (does given))) in
     record {
       leads = subst (λ x. Leads h (n + 1) b x) (becomes_again h n 1 here next b ∙ ap (λ x. becomes h (n + 1) x b) is) (leads_join h n 1 b b1 (becomes h 1 next b1) reached.leads step);
       stands = subst (λ x. Stands (memory_of b.core) x (p + 4)) is on;
@@ -85,26 +85,26 @@ may_number : (r : Registers) (mode : Mode) → is_some r.debug ≡ true → may_
 unfolding allows is_listed
 may_number r mode debugs = rw debugs refl
 
-number_effect : (given : Given) (n word : ℕ) (hart : Hart) (memory : MemoryState) → is_in_debug hart ≡ true → effect given n 4 word (Insn.Csrrs 2 0 0xf14) hart memory ≡ writes 2 hart.csrs.hart (pc_after hart 4) hart memory
-unfolding effect view is_volatile_number
+number_effect : (given : Given) (n word : ℕ) (hart : Hart) (memory : MemoryState) → is_in_debug hart ≡ true → effect (at_long given n word) (Insn.Csrrs 2 0 0xf14) hart memory ≡ Ok (writes 2 hart.csrs.hart (pc_after hart 4) hart memory)
+unfolding effect view is_volatile_number volatile_bits
 number_effect given n word hart memory debugs = rw (may_number hart.csrs hart.mode debugs) refl
 
-shift_effect : (given : Given) (n word : ℕ) (hart : Hart) (memory : MemoryState) → register hart 2 < 8 → effect given n 4 word (Insn.Slli 2 2 3) hart memory ≡ writes 2 (8 * register hart 2) (pc_after hart 4) hart memory
+shift_effect : (given : Given) (n word : ℕ) (hart : Hart) (memory : MemoryState) → register hart 2 < 8 → effect (at_long given n word) (Insn.Slli 2 2 3) hart memory ≡ Ok (writes 2 (8 * register hart 2) (pc_after hart 4) hart memory)
 unfolding effect
-shift_effect given n word hart memory small = let e : alu_of BinOp.Sll (register hart 2) 3 ≡ 8 * register hart 2 = omega arith in ap (λ x. writes 2 x (pc_after hart 4) hart memory) e
+shift_effect given n word hart memory small = let e : alu_of BinOp.Sll (register hart 2) 3 ≡ 8 * register hart 2 = omega arith in ap (λ x. Ok (writes 2 x (pc_after hart 4) hart memory)) e
 
 place_effect : (given : Given) (n p word : ℕ) (hart : Hart) (xs : List ℕ) (memory : MemoryState) → p < 2 ^ 32 →
-    effect given n 4 word (Insn.Auipc 1 (pos 0)) (at_place hart xs p) memory ≡ writes 1 (rom_base + p) (pc_after (at_place hart xs p) 4) (at_place hart xs p) memory
+    effect (at_long given n word) (Insn.Auipc 1 (pos 0)) (at_place hart xs p) memory ≡ Ok (writes 1 (rom_base + p) (pc_after (at_place hart xs p) 4) (at_place hart xs p) memory)
 unfolding effect
-place_effect given n p word hart xs memory small = let e : offset_by (rom_base + p) (pos 0) ≡ rom_base + p = omega arith in ap (λ v. writes 1 v (pc_after (at_place hart xs p) 4) (at_place hart xs p) memory) e
+place_effect given n p word hart xs memory small = let e : offset_by (rom_base + p) (pos 0) ≡ rom_base + p = omega arith in ap (λ v. Ok (writes 1 v (pc_after (at_place hart xs p) 4) (at_place hart xs p) memory)) e
 
-sum_effect : (given : Given) (n word a c : ℕ) (hart : Hart) (memory : MemoryState) → register hart 1 ≡ a → register hart 2 ≡ c → a + c < 2 ^ 64 → effect given n 4 word (Insn.Add 1 1 2) hart memory ≡ writes 1 (a + c) (pc_after hart 4) hart memory
+sum_effect : (given : Given) (n word a c : ℕ) (hart : Hart) (memory : MemoryState) → register hart 1 ≡ a → register hart 2 ≡ c → a + c < 2 ^ 64 → effect (at_long given n word) (Insn.Add 1 1 2) hart memory ≡ Ok (writes 1 (a + c) (pc_after hart 4) hart memory)
 unfolding effect
 sum_effect given n word a c hart memory first second fits =
     let e : alu_of BinOp.Add a c ≡ a + c = omega arith in
-    ap (λ x. writes 1 (alu_of BinOp.Add x (register hart 2)) (pc_after hart 4) hart memory) first
-    ∙ ap (λ x. writes 1 (alu_of BinOp.Add a x) (pc_after hart 4) hart memory) second
-    ∙ ap (λ x. writes 1 x (pc_after hart 4) hart memory) e
+    ap (λ x. Ok (writes 1 (alu_of BinOp.Add x (register hart 2)) (pc_after hart 4) hart memory)) first
+    ∙ ap (λ x. Ok (writes 1 (alu_of BinOp.Add a x) (pc_after hart 4) hart memory)) second
+    ∙ ap (λ x. Ok (writes 1 x (pc_after hart 4) hart memory)) e
 
 place_word : IsWord (encoded (Insn.Auipc 1 (pos 0)))
 unfolding encoded
@@ -183,7 +183,7 @@ sent b h start begun listed =
     let r2 : Reaches b h 2 8 hart x2 = next_word b h 1 4 2 hart.csrs.hart hart x1 (Insn.Csrrs 2 0 0xf14) w2 inside (omega arith) (omega arith, omega arith, omega arith) number_word s1 (λ given. number_effect given n _ (at_place hart x1 4) memory debugs) r1 in
     let two : register (at_place hart x2 8) 2 ≡ h = get_or-set_same x1 2 hart.csrs.hart 0 (omega arith) ∙ begun.number in
     let r3 : Reaches b h 3 12 hart x3 = next_word b h 2 8 2 (8 * h) hart x2 (Insn.Slli 2 2 3) w3 inside (omega arith) (omega arith, omega arith, omega arith) shift_word s2
-    (λ given. shift_effect given n _ (at_place hart x2 8) memory (omega arith) ∙ ap (λ k. writes 2 (8 * k) (pc_after (at_place hart x2 8) 4) (at_place hart x2 8) memory) two) r2 in
+    (λ given. shift_effect given n _ (at_place hart x2 8) memory (omega arith) ∙ ap (λ k. Ok (writes 2 (8 * k) (pc_after (at_place hart x2 8) 4) (at_place hart x2 8) memory)) two) r2 in
     let one3 : register (at_place hart x3 12) 1 ≡ rom_base = get_or-set_other x2 2 1 (8 * h) 0 (omega arith) ∙ get_or-set_other x1 2 1 hart.csrs.hart 0 (omega arith) ∙ get_or-set_same x0 1 (rom_base + 0) 0 (omega arith) in
     let two3 : register (at_place hart x3 12) 2 ≡ 8 * h = get_or-set_same x2 2 (8 * h) 0 (omega arith) in
     let r4 : Reaches b h 4 16 hart x4 = next_word b h 3 12 1 (rom_base + 8 * h) hart x3 (Insn.Add 1 1 2) w4 inside (omega arith) (omega arith, omega arith, omega arith) sum_word s3 (λ given. sum_effect given n _ rom_base (8 * h) (at_place hart x3 12) memory one3 two3 (omega arith)) r3 in

@@ -16,13 +16,13 @@ use Rattle.hart_step.specs.Answers.{Given, Loads, Stores, Untouched}
 use Rattle.hart_step.specs.Harts.{is_in_debug, register}
 use Rattle.hart_step.specs.Memory.{MemoryState, from_device, from_memory, loaded, most_rom, rom_base}
 use Rattle.hart_step.specs.Effects.{Effect, at_pc, effect, even_part, goes_on, offset_by, pc_after, shows_nothing, shows_store, shows_write, stores_at, with_write, writes}
-use Rattle.hart_step.specs.Shown.{Done}
-use Rattle.hart_step.specs.Step.{hart_step, shows}
+use Rattle.hart_step.specs.Done.{Done}
+use Rattle.hart_step.specs.Step.{hart_step}
 use Rattle.rom_gen.specs.Items.{StandAt, Width, Byte, Word, Double, load_insn, size_of, store_insn, Stands}
 use Rattle.rom_gen.specs.ItemEffects.{extended}
 use Rattle.rom_gen.proofs.Fetch.{room}
 use Rattle.rom_gen.proofs.Joins.{Does}
-use Rattle.rom_gen.proofs.Steps.{at_word, does_effect}
+use Rattle.rom_gen.proofs.Steps.{at_long, at_word, does_effect, shows}
 use Rattle.rom_gen.proofs.Devices.{loads_device, loads_pool, stores_device}
 use Rattle.rom_gen.proofs.WordForms.{IsWord, word_r_fits, word_long_fits, modulo_12}
 
@@ -53,13 +53,13 @@ no_device n at size low =
 -- the load gives the value that stands in the pool
 pub pooled_effect : (given : Given) (n : ℕ) (hart : Hart) (memory : MemoryState) (word r v block off : ℕ) → is_in_debug hart ≡ true → v < 2 ^ 64 → (block + off) % 8 ≡ 0 →
     off < 2048 → length memory.rom ≤ most_rom → register hart 1 ≡ rom_base + block → StandAt (little_bytes 8 v) (block + off) memory.rom →
-    effect given n 4 word (Insn.Ld r 1 (pos off)) hart memory ≡ writes r v (pc_after hart 4) hart memory
+    effect (at_long given n word) (Insn.Ld r 1 (pos off)) hart memory ≡ Ok (writes r v (pc_after hart 4) hart memory)
 unfolding effect
 pooled_effect given n hart memory word r v block off debugs fits aligned near small at there =
     let within : block + off + 8 ≤ length memory.rom = omega (arith, room (block + off) (little_bytes 8 v) there.0 memory.rom there.1 (omega arith)) in
     let va : offset_by (register hart 1) (pos off) ≡ rom_base + (block + off) = ap (λ a. offset_by a (pos off)) at ∙ omega arith in
     let e : loaded given n hart memory 8 (offset_by (register hart 1) (pos off)) ≡ Ok (from_memory v) = ap (loaded given n hart memory 8) va ∙ loads_pool given n hart memory (block + off) v there.0 debugs aligned fits small (no_device n (rom_base + (block + off)) 8 (omega arith)) there.1 in
-    rw e (ap (λ x. writes r x (pc_after hart 4) hart memory) (same_64 v fits))
+    rw e (ap (λ x. Ok (writes r x (pc_after hart 4) hart memory)) (same_64 v fits))
 
 pub pooled_step : (given : Given) (n h : ℕ) (hart : Hart) (memory : MemoryState) (p r v block off : ℕ) (rest : List ℕ) → Stands memory hart p → given.interrupt ≡ None →
     r < 32 → v < 2 ^ 64 → (block + off) % 8 ≡ 0 → off < 2048 → register hart 1 ≡ rom_base + block → StandAt (little_bytes 8 v) (block + off) memory.rom →
@@ -71,7 +71,7 @@ pooled_step given n h hart memory p r v block off rest stands none r_fits fits a
     let next : Hart = with_write hart r v (pc_after hart 4) in
     subst (λ a. Does memory a None next Untouched)
     (sym (at_word given n h hart memory p rest (Insn.Ld r 1 (pos off)) stands none (r_fits, omega arith, (omega (arith, ints), omega (arith, ints))) (word_r_fits 0x3003 r 1 (modulo 12 (pos off)) (omega arith) refl r_fits (omega arith) (modulo_12 (pos off))) there
-    ∙ ap (shows h hart word) (pooled_effect given n hart memory word r v block off stands.debugs fits aligned near stands.small at pool)))
+    ∙ ap (shows h hart memory word) (pooled_effect given n hart memory word r v block off stands.debugs fits aligned near stands.small at pool)))
     (does_effect h hart next memory word (writes r v (pc_after hart 4) hart memory) (shows_write r v) Untouched stands.debugs refl refl refl refl)
 
 -- ---- lui, and addiw onto what it gave
@@ -88,7 +88,7 @@ upper_step given n h hart memory p r v imm rest stands none r_fits is_signed mul
     let next : Hart = with_write hart r v (pc_after hart 4) in
     subst (λ a. Does memory a None next Untouched)
     (sym (at_word given n h hart memory p rest (Insn.Lui r imm) stands none (r_fits, is_signed, multiple) (word_long_fits 0x37 r (bits_of (modulo 32 imm) 12 20) (omega arith) refl r_fits (bits_20 imm)) there
-    ∙ ap (λ x. shows h hart word (writes r x (pc_after hart 4) hart memory)) is))
+    ∙ ap (λ x. shows h hart memory word (Ok (writes r x (pc_after hart 4) hart memory))) is))
     (does_effect h hart next memory word (writes r v (pc_after hart 4) hart memory) (shows_write r v) Untouched stands.debugs refl refl refl refl)
 
 pub low_step : (given : Given) (n h : ℕ) (hart : Hart) (memory : MemoryState) (p r v : ℕ) (imm : ℤ) (rest : List ℕ) → Stands memory hart p → given.interrupt ≡ None →
@@ -100,7 +100,7 @@ low_step given n h hart memory p r v imm rest stands none r_fits is_signed is th
     let next : Hart = with_write hart r v (pc_after hart 4) in
     subst (λ a. Does memory a None next Untouched)
     (sym (at_word given n h hart memory p rest (Insn.Addiw r r imm) stands none (r_fits, r_fits, is_signed) (word_r_fits 0x1b r r (modulo 12 imm) (omega arith) refl r_fits r_fits (modulo_12 imm)) there
-    ∙ ap (λ x. shows h hart word (writes r x (pc_after hart 4) hart memory)) is))
+    ∙ ap (λ x. shows h hart memory word (Ok (writes r x (pc_after hart 4) hart memory))) is))
     (does_effect h hart next memory word (writes r v (pc_after hart 4) hart memory) (shows_write r v) Untouched stands.debugs refl refl refl refl)
 
 -- ---- jalr to a register, without a link
@@ -117,7 +117,7 @@ go_step given n h hart memory p r rest stands none r_fits fits there =
     let next : Hart = at_pc hart (even_part (register hart r)) in
     subst (λ a. Does memory a None next Untouched)
     (sym (at_word given n h hart memory p rest (Insn.Jalr 0 r (pos 0)) stands none (omega arith, r_fits, (omega (arith, ints), omega (arith, ints))) (word_r_fits 0x67 0 r (modulo 12 (pos 0)) (omega arith) refl (omega arith) r_fits (modulo_12 (pos 0))) there
-    ∙ ap (λ a. shows h hart word (goes_on (at_pc hart (even_part a)) memory)) (even_nothing (register hart r) fits)))
+    ∙ ap (λ a. shows h hart memory word (Ok (goes_on (at_pc hart (even_part a)) memory))) (even_nothing (register hart r) fits)))
     (does_effect h hart next memory word (goes_on next memory) shows_nothing Untouched stands.debugs refl refl refl refl)
 
 -- ---- sw to a device register
@@ -136,7 +136,7 @@ store_range Byte r at off r_fits at_fits signed = (at_fits, r_fits, signed)
 store_range Word r at off r_fits at_fits signed = (at_fits, r_fits, signed)
 store_range Double r at off r_fits at_fits signed = (at_fits, r_fits, signed)
 
-store_effect : (given : Given) (w : Width) (n word r at : ℕ) (off : ℤ) (hart : Hart) (memory : MemoryState) → effect given n 4 word (store_insn w at r off) hart memory ≡ stores_at n (size_of w) (register hart r) 4 (offset_by (register hart at) off) hart memory
+store_effect : (given : Given) (w : Width) (n word r at : ℕ) (off : ℤ) (hart : Hart) (memory : MemoryState) → effect (at_long given n word) (store_insn w at r off) hart memory ≡ stores_at n (size_of w) (register hart r) 4 (offset_by (register hart at) off) hart memory
 unfolding effect
 store_effect given Byte n word r at off hart memory = refl
 store_effect given Word n word r at off hart memory = refl
@@ -153,10 +153,10 @@ store_step w given n h hart memory p r at off rest stands none r_fits at_fits is
     let next : Hart = at_pc hart (pc_after hart 4) in
     let v : ℕ = register hart r in
     let s : ℕ = size_of w in
-    let e : Effect = record { hart = next; memory = memory; shown = Ok (shows_store va s v); access = Stores va s (low_bytes s v) } in
+    let e : Effect = record { hart = next; memory = memory; done = shows_store va s v; access = Stores va s (low_bytes s v) } in
     subst (λ a. Does memory a (Some (record { at = va; size = s; value = low_bytes s v })) next (Stores va s (low_bytes s v)))
     (sym (at_word given n h hart memory p rest (store_insn w at r off) stands none (store_range w r at off r_fits at_fits is_signed) (store_word w r at off r_fits at_fits) there
-    ∙ ap (shows h hart word) (store_effect given w n word r at off hart memory ∙ stores_device n s v hart memory va stands.debugs device)))
+    ∙ ap (shows h hart memory word) (store_effect given w n word r at off hart memory ∙ stores_device n s v hart memory va stands.debugs device)))
     (does_effect h hart next memory word e (shows_store va s v) (Stores va s (low_bytes s v)) stands.debugs refl refl refl refl)
 
 -- ---- lbu and lw from a device register
@@ -179,13 +179,13 @@ abbrev pub load_effect_of : Given → ℕ → ℕ → ℕ → Hart → MemorySta
 load_effect_of given va size r hart memory = record {
   hart = with_write hart r (extended size (given.device va size)) (pc_after hart 4);
   memory = memory;
-  shown = Ok (load_done given va size r);
+  done = load_done given va size r;
   access = Loads va size;
 }
 
 load_effect : (given : Given) (w : Width) (n word r at : ℕ) (off : ℤ) (hart : Hart) (memory : MemoryState) →
     loaded given n hart memory (size_of w) (offset_by (register hart at) off) ≡ Ok (from_device given (offset_by (register hart at) off) (size_of w)) →
-    effect given n 4 word (load_insn w r at off) hart memory ≡ load_effect_of given (offset_by (register hart at) off) (size_of w) r hart memory
+    effect (at_long given n word) (load_insn w r at off) hart memory ≡ Ok (load_effect_of given (offset_by (register hart at) off) (size_of w) r hart memory)
 unfolding effect
 load_effect given Byte n word r at off hart memory e = rw e refl
 load_effect given Word n word r at off hart memory e = rw e refl
@@ -203,5 +203,5 @@ load_step w given n h hart memory p r at off rest stands none r_fits at_fits is_
     let e : Effect = load_effect_of given va s r hart memory in
     subst (λ a. Does memory a None e.hart (Loads va s))
     (sym (at_word given n h hart memory p rest (load_insn w r at off) stands none (load_range w r at off r_fits at_fits is_signed) (load_word w r at off r_fits at_fits) there
-    ∙ ap (shows h hart word) (load_effect given w n word r at off hart memory (loads_device given n s hart memory va stands.debugs device))))
+    ∙ ap (shows h hart memory word) (load_effect given w n word r at off hart memory (loads_device given n s hart memory va stands.debugs device))))
     (does_effect h hart e.hart memory word e (load_done given va s r) (Loads va s) stands.debugs refl refl refl refl)

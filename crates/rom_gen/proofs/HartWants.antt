@@ -7,16 +7,17 @@ use Rattle.std.proofs.lemmas.List.{get_or-set_same, get_or-set_other, length-set
 use Rattle.rv_alu.specs.Modes.{level}
 use Rattle.csr_file.specs.Bits.{dcsr_fixed}
 use Rattle.csr_file.specs.Kept.{IsFit, kept_value, reset_debug_registers}
-use Rattle.csr_file.specs.Legal.{Slot, kept_slots, legal}
+use Rattle.csr_file.specs.Legal.{kept_numbers, legal}
 use Rattle.csr_file.specs.Numbers.{csr_dcsr, csr_dpc}
 use Rattle.csr_file.specs.Write.{written}
 use Rattle.csr_file.specs.declared.registers.Registers.{Registers}
+use Rattle.csr_file.proofs.BackLaws.{put_back}
 use Rattle.hart_step.specs.declared.hart.Hart.{Hart}
 use Rattle.hart_step.specs.DebugReset.{debug_registers}
 use Rattle.rom_gen.specs.Items.{Spelling}
-use Rattle.rom_gen.specs.HartWants.{controls, numbered, slot_wants}
+use Rattle.rom_gen.specs.HartWants.{controls, number_wants, numbered}
 use Rattle.rom_gen.specs.Wants.{Want, Reg, Control, hart_all, placed}
-use Rattle.rom_gen.proofs.Registers.{put_back, debug_back, kept_back}
+use Rattle.rom_gen.proofs.Registers.{debug_back, kept_back}
 use Rattle.rom_gen.proofs.Layouts.{AllGood, IsLayout, Leaves, all_csrs}
 use Rattle.rom_gen.proofs.Placed.{count_kept, hart_append}
 
@@ -25,18 +26,18 @@ csrs_append [] c r = refl
 csrs_append (Reg i v ∷ a) c r = csrs_append a c r
 csrs_append (Control number v ∷ a) c r = csrs_append a c (written number v r)
 
-slots_are : (target r : Registers) (slots : List Slot) → all_csrs (slot_wants target slots) r ≡ put_back target slots r
-unfolding slot_wants
-slots_are target r [] = refl
-slots_are target r (s ∷ slots) = slots_are target (written s.number (kept_value s.number target) r) slots
+numbers_are : (target r : Registers) (numbers : List ℕ) → all_csrs (number_wants target numbers) r ≡ put_back target numbers r
+unfolding number_wants
+numbers_are target r [] = refl
+numbers_are target r (number ∷ numbers) = numbers_are target (written number (kept_value number target) r) numbers
 
 -- registers_restored, whatever the spelling
 pub controls_restore : (target : Hart) → IsFit target.csrs → ((old : ℕ) → legal csr_dpc old target.pc ≡ target.pc) →
     all_csrs (controls target) (debug_registers target.csrs.hart) ≡ record target.csrs { debug = Some (record reset_debug_registers { dcsr = dcsr_fixed + level target.mode; dpc = target.pc }) }
 controls_restore target fit even =
     let last : List Want = Control csr_dcsr (dcsr_fixed + level target.mode) ∷ Control csr_dpc target.pc ∷ [] in
-    csrs_append (slot_wants target.csrs kept_slots) last (debug_registers target.csrs.hart)
-    ∙ ap (all_csrs last) (slots_are target.csrs (debug_registers target.csrs.hart) kept_slots ∙ kept_back target.csrs fit)
+    csrs_append (number_wants target.csrs kept_numbers) last (debug_registers target.csrs.hart)
+    ∙ ap (all_csrs last) (numbers_are target.csrs (debug_registers target.csrs.hart) kept_numbers ∙ kept_back target.csrs fit)
     ∙ debug_back target.csrs target.mode target.pc even
 
 -- ---- x0 to x31

@@ -13,6 +13,7 @@ use Rattle.rv_decode.specs.declared.Insn.{Insn}
 use Rattle.rv_decode.specs.Encode.{encoded}
 use Rattle.csr_file.specs.Write.{written}
 use Rattle.csr_file.specs.declared.registers.Registers.{Registers}
+use Rattle.csr_file.proofs.WriteLaws.{written-in_debug}
 use Rattle.trap_rules.specs.Interrupt.{picked}
 use Rattle.trap_rules.specs.Return.{debug_returned}
 use Rattle.hart_step.specs.declared.event.Put.{Put as Stored}
@@ -28,7 +29,6 @@ use Rattle.hart_turns.proofs.BootSteps.{leads_join}
 use Rattle.rom_gen.specs.Items.{Item, Put, Csr, CsrImm, Store, Go, Spelled, small, upper, pair, pooled, csr, csr_imm, store, load, go, leave, Leave, Load, size_of, Spelling, StandAt, all_insns, code, word_count, Stands}
 use Rattle.rom_gen.specs.ItemEffects.{extended, AllSpelled, all_do, becomes, does, hart_after, IsFollowed, Moves, freed, is_leave, left_debug, rom_while}
 use Rattle.rom_gen.proofs.Fetch.{room}
-use Rattle.rom_gen.proofs.InDebug.{written_debugs}
 use Rattle.rom_gen.proofs.Devices.{leave_step}
 use Rattle.rom_gen.proofs.Joins.{Does, acted, frees_step, leads_step, length-after}
 use Rattle.rom_gen.proofs.Steps.{csr_imm_step, csr_step, small_step}
@@ -136,11 +136,11 @@ item_steps b h p block _ _ inside stands (pooled r v off some r_fits fits near a
     (λ given none. pooled_step given (length b.core.harts) h hart (memory_of b.core) p r v block off there.0 stands none r_fits fits aligned near at pool there.1)
 item_steps b h p block _ _ inside stands (csr num r r_fits num_fits writable) there =
     let hart : Hart = hart_of b.core h in
-    leads_quiet b h hart (hart_after 1 (Csr num r) hart) inside refl stands.debugs (written_debugs num (register hart r) hart.csrs stands.debugs)
+    leads_quiet b h hart (hart_after 1 (Csr num r) hart) inside refl stands.debugs (written-in_debug num (register hart r) hart.csrs ∙ stands.debugs)
     (λ given none. csr_step given (length b.core.harts) h hart (memory_of b.core) p num r there.0 stands none r_fits num_fits writable there.1)
 item_steps b h p block _ _ inside stands (csr_imm num u u_fits num_fits writable) there =
     let hart : Hart = hart_of b.core h in
-    leads_quiet b h hart (hart_after 1 (CsrImm num u) hart) inside refl stands.debugs (written_debugs num u hart.csrs stands.debugs)
+    leads_quiet b h hart (hart_after 1 (CsrImm num u) hart) inside refl stands.debugs (written-in_debug num u hart.csrs ∙ stands.debugs)
     (λ given none. csr_imm_step given (length b.core.harts) h hart (memory_of b.core) p num u there.0 stands none u_fits num_fits writable there.1)
 item_steps b h p block _ _ inside stands (store w r at off r_fits at_fits is_signed device) there =
     let hart : Hart = hart_of b.core h in
@@ -183,8 +183,8 @@ stands_after b h p block _ _ inside stands (small r v imm some r_fits is_signed 
 stands_after b h p block _ _ inside stands (upper r v imm some r_fits is_signed multiple is) within stays = stands_becomes b h 1 (p + 4) _ inside (stands_put (memory_of b.core) (hart_of b.core h) p 4 r v stands some within)
 stands_after b h p block _ _ inside stands (pair r v high low some r_fits high_fits multiple low_fits is) within stays = stands_becomes b h 2 (p + 8) _ inside (stands_put (memory_of b.core) (hart_of b.core h) p 8 r v stands some within)
 stands_after b h p block _ _ inside stands (pooled r v off some r_fits fits near aligned at pool) within stays = stands_becomes b h 1 (p + 4) _ inside (stands_put (memory_of b.core) (hart_of b.core h) p 4 r v stands some within)
-stands_after b h p block _ _ inside stands (csr num r r_fits num_fits writable) within stays = stands_becomes b h 1 (p + 4) _ inside (stands_on (memory_of b.core) (hart_of b.core h) p 4 (written num (register (hart_of b.core h) r) (hart_of b.core h).csrs) stands (written_debugs num (register (hart_of b.core h) r) (hart_of b.core h).csrs stands.debugs) within)
-stands_after b h p block _ _ inside stands (csr_imm num u u_fits num_fits writable) within stays = stands_becomes b h 1 (p + 4) _ inside (stands_on (memory_of b.core) (hart_of b.core h) p 4 (written num u (hart_of b.core h).csrs) stands (written_debugs num u (hart_of b.core h).csrs stands.debugs) within)
+stands_after b h p block _ _ inside stands (csr num r r_fits num_fits writable) within stays = stands_becomes b h 1 (p + 4) _ inside (stands_on (memory_of b.core) (hart_of b.core h) p 4 (written num (register (hart_of b.core h) r) (hart_of b.core h).csrs) stands (written-in_debug num (register (hart_of b.core h) r) (hart_of b.core h).csrs ∙ stands.debugs) within)
+stands_after b h p block _ _ inside stands (csr_imm num u u_fits num_fits writable) within stays = stands_becomes b h 1 (p + 4) _ inside (stands_on (memory_of b.core) (hart_of b.core h) p 4 (written num u (hart_of b.core h).csrs) stands (written-in_debug num u (hart_of b.core h).csrs ∙ stands.debugs) within)
 stands_after b h p block _ _ inside stands (store w r at off r_fits at_fits is_signed device) within stays =
     let hart : Hart = hart_of b.core h in
     let put : Option Stored = Some (record { at = offset_by (register hart at) off; size = size_of w; value = low_bytes (size_of w) (register hart r) }) in

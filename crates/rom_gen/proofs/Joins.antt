@@ -9,7 +9,7 @@ use Rattle.hart_step.specs.declared.hart.Hart.{Hart}
 use Rattle.hart_step.specs.Answers.{Access}
 use Rattle.hart_step.specs.Harts.{hart_of, is_in_debug, reset_hart}
 use Rattle.hart_step.specs.Memory.{MemoryState}
-use Rattle.hart_step.specs.Step.{Answer, HartAnswer, after_store, core_after, hart_step, harts_after, memory_of, rom_after, step, stored_by, without_reservation}
+use Rattle.hart_step.specs.Step.{Answer, HartAnswer, after_store, core_after, hart_step, harts_after, memory_of, rom_after, step, without_reservation}
 use Rattle.hart_step.specs.Events.{exception_of}
 use Rattle.hart_turns.specs.Gives.{board_after, board_gives, sent_by, board_step}
 use Rattle.hart_turns.specs.Boot.{Booting, Booted, Leads, Frees, after_boot_step, boot_hart, onward}
@@ -32,7 +32,7 @@ acted h st hart rom access b = record {
 -- what a step of a hart on ROM code does: it commits, it leaves memory as it is, and this hart and access
 pub record Does (memory : MemoryState) (a : HartAnswer) (st : Option Put) (hart : Hart) (access : Access) : Type 0 where
   pub commits : exception_of a.event ≡ None
-  pub stores : stored_by a.event ≡ st
+  pub stores : a.stored ≡ st
   pub hart_is : a.hart ≡ hart
   pub memory_is : a.memory ≡ memory
   pub access_is : a.access ≡ access
@@ -63,12 +63,12 @@ pub leads_step : (b : Booting) (h : ℕ) (a : HartAnswer) (st : Option Put) (har
 unfolding boot_hart
 leads_step b h a st hart access within is does debugs left =
     let one : 1 + left ≡ suc left = omega arith in
-    let harts : List Hart = after_store (stored_by a.event) b.core.harts in
-    let inside : h < length harts = omega (arith, length-after (stored_by a.event) b.core.harts) in
+    let harts : List Hart = after_store a.stored b.core.harts in
+    let inside : h < length harts = omega (arith, length-after a.stored b.core.harts) in
     let at : hart_of (core_after b.core h (hart_of b.core h) a).core h ≡ hart = get_or-set_same harts h a.hart (reset_hart 0 0) inside ∙ does.hart_is in
     let stays : is_in_debug (hart_of (core_after b.core h (hart_of b.core h) a).core h) ≡ true = ap is_in_debug at ∙ debugs in
     let still : is_in_debug a.hart ≡ true = ap is_in_debug does.hart_is ∙ debugs in
-    let same : after_boot_step b (core_after b.core h (hart_of b.core h) a) ≡ acted h st hart b.core.rom access b = acted_is b h (stored_by a.event) st a.hart hart a.memory.ram (rom_after (hart_of b.core h) a.hart (harts_after b.core h a) a.memory.rom) b.core.rom a.access access does.stores does.hart_is (ap (λ (x : MemoryState). x.ram) does.memory_is) (rom_stays (is_in_debug (hart_of b.core h)) (is_in_debug a.hart) (list_any is_in_debug (harts_after b.core h a)) a.memory.rom still ∙ ap (λ (x : MemoryState). x.rom) does.memory_is) does.access_is in
+    let same : after_boot_step b (core_after b.core h (hart_of b.core h) a) ≡ acted h st hart b.core.rom access b = acted_is b h a.stored st a.hart hart a.memory.ram (rom_after (hart_of b.core h) a.hart (harts_after b.core h a) a.memory.rom) b.core.rom a.access access does.stores does.hart_is (ap (λ (x : MemoryState). x.ram) does.memory_is) (rom_stays (is_in_debug (hart_of b.core h)) (is_in_debug a.hart) (list_any is_in_debug (harts_after b.core h a)) a.memory.rom still ∙ ap (λ (x : MemoryState). x.rom) does.memory_is) does.access_is in
     ap (λ n. boot_hart n h b) one
     ∙ ap (λ (x : Answer). onward h (exception_of x.event) (after_boot_step b x) (boot_hart left h)) (answered b h a is)
     ∙ onward_stays h (exception_of a.event) (after_boot_step b (core_after b.core h (hart_of b.core h) a)) (boot_hart left h) does.commits stays
@@ -81,14 +81,14 @@ pub frees_step : (b : Booting) (h : ℕ) (a : HartAnswer) (hart : Hart) (access 
 unfolding boot_hart
 frees_step b h a hart access within is does out left =
     let one : 1 + left ≡ suc left = omega arith in
-    let harts : List Hart = after_store (stored_by a.event) b.core.harts in
-    let inside : h < length harts = omega (arith, length-after (stored_by a.event) b.core.harts) in
+    let harts : List Hart = after_store a.stored b.core.harts in
+    let inside : h < length harts = omega (arith, length-after a.stored b.core.harts) in
     let at : hart_of (core_after b.core h (hart_of b.core h) a).core h ≡ hart = get_or-set_same harts h a.hart (reset_hart 0 0) inside ∙ does.hart_is in
     let rom : rom_after (hart_of b.core h) a.hart (harts_after b.core h a) a.memory.rom ≡ rom_after (hart_of b.core h) hart (slice_set b.core.harts h hart) b.core.rom =
     ap (λ (x : Hart). rom_after (hart_of b.core h) x (slice_set harts h x) a.memory.rom) does.hart_is
     ∙ ap (λ (put : Option Put). rom_after (hart_of b.core h) hart (slice_set (after_store put b.core.harts) h hart) a.memory.rom) does.stores
     ∙ ap (λ (x : MemoryState). rom_after (hart_of b.core h) hart (slice_set b.core.harts h hart) x.rom) does.memory_is in
-    let same : after_boot_step b (core_after b.core h (hart_of b.core h) a) ≡ acted h None hart (rom_after (hart_of b.core h) hart (slice_set b.core.harts h hart) b.core.rom) access b = acted_is b h (stored_by a.event) None a.hart hart a.memory.ram (rom_after (hart_of b.core h) a.hart (harts_after b.core h a) a.memory.rom) (rom_after (hart_of b.core h) hart (slice_set b.core.harts h hart) b.core.rom) a.access access does.stores does.hart_is (ap (λ (x : MemoryState). x.ram) does.memory_is) rom does.access_is in
+    let same : after_boot_step b (core_after b.core h (hart_of b.core h) a) ≡ acted h None hart (rom_after (hart_of b.core h) hart (slice_set b.core.harts h hart) b.core.rom) access b = acted_is b h a.stored None a.hart hart a.memory.ram (rom_after (hart_of b.core h) a.hart (harts_after b.core h a) a.memory.rom) (rom_after (hart_of b.core h) hart (slice_set b.core.harts h hart) b.core.rom) a.access access does.stores does.hart_is (ap (λ (x : MemoryState). x.ram) does.memory_is) rom does.access_is in
     ap (λ n. boot_hart n h b) one
     ∙ ap (λ (x : Answer). onward h (exception_of x.event) (after_boot_step b x) (boot_hart left h)) (answered b h a is)
     ∙ onward_frees h (exception_of a.event) (after_boot_step b (core_after b.core h (hart_of b.core h) a)) (boot_hart left h) does.commits (ap is_in_debug at ∙ out)

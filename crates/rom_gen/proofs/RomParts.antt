@@ -7,14 +7,14 @@ use Rattle.byteorder.specs.Endian.{little_bytes}
 use Rattle.rv_alu.specs.Modes.{level}
 use Rattle.rv_decode.specs.declared.Insn.{Insn}
 use Rattle.csr_file.specs.Bits.{dcsr_fixed}
-use Rattle.csr_file.specs.Legal.{kept_slots}
+use Rattle.csr_file.specs.Legal.{kept_numbers}
 use Rattle.csr_file.specs.Numbers.{csr_dcsr, csr_dpc}
 use Rattle.clint.specs.State.{hart_count}
 use Rattle.plic.specs.State.{context_count as contexts_of}
 use Rattle.board_bus.specs.Board.{BoardState, IsFit}
 use Rattle.hart_step.specs.declared.hart.Hart.{Hart}
 use Rattle.rom_gen.specs.Items.{Put, Store, Word, Double, Spelling, StandAt, Width, all_insns, code, size_of, store_insn, word_count}
-use Rattle.rom_gen.specs.HartWants.{controls, first_wants, numbered, registers, slot_wants}
+use Rattle.rom_gen.specs.HartWants.{controls, first_wants, number_wants, numbered, registers}
 use Rattle.rom_gen.specs.Wants.{Want, Reg, Control, all_values, high_part, low_part, is_short, is_small, placed, pool, put_insns, want_items, want_values, put_values}
 use Rattle.rom_gen.specs.Deeds.{Deed, Aim, Save, Again, Read, all_deed_values, deed_items, deed_values, placed_deeds}
 use Rattle.rom_gen.specs.DeviceBlock.{compare_deeds, context_deeds, device_deeds, queue_deeds, soft_deeds, timer_deeds}
@@ -68,9 +68,9 @@ hart_fixed target k =
     let n : ℕ = 8 * length (all_values want_values ws) in
     omega (arith, count_append (placed want_items want_values k ws) (want_items (k + n) l), count_append (placed want_items want_values 0 ws) (want_items (0 + n) l), placed_fixed want_values want_sized k 0 ws, want_sized.fixed (k + n) l, want_sized.fixed (0 + n) l)
 
-slots_length : (target : Hart) → length (slot_wants target.csrs kept_slots) ≡ 22
-unfolding slot_wants kept_slots
-slots_length target = refl
+controls_length : (target : Hart) → length (number_wants target.csrs kept_numbers) ≡ 22
+unfolding number_wants kept_numbers
+controls_length target = refl
 
 numbered_length : (n i : ℕ) (xs : List ℕ) → length (numbered n i xs) ≡ n
 unfolding numbered
@@ -79,8 +79,8 @@ numbered_length (suc n) i xs = let e = numbered_length n (suc i) xs in omega ari
 
 wants_length : (target : Hart) → length (first_wants target) ≡ 54
 wants_length target =
-    let a : List Want = slot_wants target.csrs kept_slots in
-    omega (arith, length-append (controls target) (registers target), length-append a (Control csr_dcsr (dcsr_fixed + level target.mode) ∷ Control csr_dpc target.pc ∷ []), slots_length target, numbered_length 30 2 target.x)
+    let a : List Want = number_wants target.csrs kept_numbers in
+    omega (arith, length-append (controls target) (registers target), length-append a (Control csr_dcsr (dcsr_fixed + level target.mode) ∷ Control csr_dpc target.pc ∷ []), controls_length target, numbered_length 30 2 target.x)
 
 -- few words, so few steps
 pub hart_short : (target : Hart) → word_count (hart_items target 0) ≤ 165

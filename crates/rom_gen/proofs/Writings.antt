@@ -10,14 +10,14 @@ use Rattle.rv_decode.specs.Encode.{encoded}
 use Rattle.csr_file.specs.Bits.{dcsr_fixed}
 use Rattle.csr_file.specs.Numbers.{csr_dcsr, csr_dpc}
 use Rattle.csr_file.specs.Kept.{kept_value}
-use Rattle.csr_file.specs.Legal.{Slot, kept_slots}
+use Rattle.csr_file.specs.Legal.{kept_numbers}
 use Rattle.csr_file.specs.declared.registers.Registers.{Registers}
 use Rattle.hart_step.specs.declared.hart.Hart.{Hart}
 use Rattle.rom_gen.specs.Rom.{block_bytes, block_words, hart_bytes, hart_items, hart_values, padding, pool_place, rounded}
 use Rattle.rom_gen.specs.Items.{Spelling, all_insns, code, word_count}
-use Rattle.rom_gen.specs.HartWants.{first_wants, numbered, slot_wants, number_of}
+use Rattle.rom_gen.specs.HartWants.{first_wants, number_wants, numbered}
 use Rattle.rom_gen.specs.Wants.{Want, Reg, Control, all_values, placed, pool, put_insns, want_items, want_values, put_values}
-use Rattle.rom_gen.specs.Writing.{Adds, Wrote, number_wants, offset_of}
+use Rattle.rom_gen.specs.Writing.{Adds, Wrote, offset_of}
 use Rattle.rom_gen.specs.declared.writer.Writer.{Writer}
 use Rattle.rom_gen.proofs.HartBlock.{insns_count}
 use Rattle.rom_gen.proofs.ItemSteps.{code_append, code_length}
@@ -76,15 +76,10 @@ numbered_more (suc n) i xs =
     let e : suc i + n ≡ i + suc n = omega arith in
     ap (λ ws. Reg i (slice_index xs i) ∷ ws) (numbered_more n (suc i) xs ∙ ap (λ k. numbered n (suc i) xs ++ Reg k (slice_index xs k) ∷ []) e)
 
-pub slots_by_number : (r : Registers) (slots : List Slot) → slot_wants r slots ≡ number_wants r (map number_of slots)
-unfolding slot_wants number_wants
-slots_by_number r [] = refl
-slots_by_number r (s ∷ slots) = ap (λ ws. Control s.number (kept_value s.number r) ∷ ws) (slots_by_number r slots)
-
-pub slot_written : (start now next : Writer) (r : Registers) (numbers : List ℕ) (i : ℕ) → i < length numbers → Wrote start now (number_wants r (take i numbers)) →
+pub number_written : (start now next : Writer) (r : Registers) (numbers : List ℕ) (i : ℕ) → i < length numbers → Wrote start now (number_wants r (take i numbers)) →
     Adds now next (all_insns (want_items (offset_of now) (Control (slice_index numbers i) (kept_value (slice_index numbers i) r)))) (want_values (Control (slice_index numbers i) (kept_value (slice_index numbers i) r))) →
     Wrote start next (number_wants r (take (i + 1) numbers))
-slot_written start now next r numbers i within wrote adds =
+number_written start now next r numbers i within wrote adds =
     let w : Want = Control (slice_index numbers i) (kept_value (slice_index numbers i) r) in
     subst (λ ws. Wrote start next ws) (sym (ap (number_wants r) (take_more numbers i 0 within) ∙ numbers_more r (take i numbers) (slice_index numbers i)))
     (wrote_join start now next (number_wants r (take i numbers)) (w ∷ []) wrote (wrote_one now next w adds))
@@ -125,15 +120,15 @@ from_all_of p (x ∷ xs) e (suc k) d within = from_all_of p xs (and_parts (p x) 
 -- ---- a hart
 
 -- all wants of a hart
-pub hart_written : (a b c d e f : Writer) (target : Hart) (r : Registers) (numbers : List ℕ) (v1 v2 v3 : ℕ) → r ≡ target.csrs → numbers ≡ map number_of kept_slots → v1 ≡ dcsr_fixed + level target.mode → v2 ≡ target.pc → v3 ≡ slice_index target.x 1 →
+pub hart_written : (a b c d e f : Writer) (target : Hart) (r : Registers) (numbers : List ℕ) (v1 v2 v3 : ℕ) → r ≡ target.csrs → numbers ≡ kept_numbers → v1 ≡ dcsr_fixed + level target.mode → v2 ≡ target.pc → v3 ≡ slice_index target.x 1 →
     Wrote a b (number_wants r numbers) → Adds b c (all_insns (want_items (offset_of b) (Control csr_dcsr v1))) (want_values (Control csr_dcsr v1)) → Adds c d (all_insns (want_items (offset_of c) (Control csr_dpc v2))) (want_values (Control csr_dpc v2)) → Wrote d e (numbered 30 2 target.x) → Adds e f (put_insns (offset_of e) 1 v3) (put_values v3) →
     Adds a f (all_insns (hart_items target (offset_of a))) (hart_values target)
-hart_written a b c d e f target r numbers v1 v2 v3 same all is1 is2 is3 slots control pc xs last =
-    let ws : List Want = slot_wants target.csrs kept_slots in
+hart_written a b c d e f target r numbers v1 v2 v3 same all is1 is2 is3 controls control pc xs last =
+    let ws : List Want = number_wants target.csrs kept_numbers in
     let w1 : Want = Control csr_dcsr (dcsr_fixed + level target.mode) in
     let w2 : Want = Control csr_dpc target.pc in
     let w3 : Want = Reg 1 (slice_index target.x 1) in
-    let one : Wrote a b ws = subst (λ x. Wrote a b x) (ap (λ x. number_wants x numbers) same ∙ ap (number_wants target.csrs) all ∙ sym (slots_by_number target.csrs kept_slots)) slots in
+    let one : Wrote a b ws = subst (λ x. Wrote a b x) (ap (λ x. number_wants x numbers) same ∙ ap (number_wants target.csrs) all) controls in
     let two : Wrote b c (w1 ∷ []) = wrote_one b c w1 (subst (λ v. Adds b c (all_insns (want_items (offset_of b) (Control csr_dcsr v))) (want_values (Control csr_dcsr v))) is1 control) in
     let three : Wrote c d (w2 ∷ []) = wrote_one c d w2 (subst (λ v. Adds c d (all_insns (want_items (offset_of c) (Control csr_dpc v))) (want_values (Control csr_dpc v))) is2 pc) in
     let four : Wrote a d (ws ++ (w1 ∷ w2 ∷ [])) = wrote_join a b d ws (w1 ∷ w2 ∷ []) one (wrote_join b c d (w1 ∷ []) (w2 ∷ []) two three) in

@@ -3,19 +3,16 @@ use Rattle.std.specs.Prelude.{ℕ, zero, suc, ◌+◌, List, [], ◌∷◌, ◌+
 use Rattle.rv_alu.specs.Modes.{level}
 use Rattle.csr_file.specs.Bits.{dcsr_fixed}
 use Rattle.csr_file.specs.Kept.{kept_value}
-use Rattle.csr_file.specs.Legal.{Slot, kept_slots}
+use Rattle.csr_file.specs.Legal.{kept_numbers}
 use Rattle.csr_file.specs.Numbers.{csr_dcsr, csr_dpc}
 use Rattle.csr_file.specs.declared.registers.Registers.{Registers}
 use Rattle.hart_step.specs.declared.hart.Hart.{Hart}
 use Rattle.rom_gen.specs.Wants.{Want, Reg, Control}
 
-abbrev pub number_of : Slot → ℕ
-number_of s = s.number
-
--- the control and status registers of these slots
-unfoldable pub slot_wants : Registers → List Slot → List Want
-slot_wants csrs [] = []
-slot_wants csrs (s ∷ rest) = Control s.number (kept_value s.number csrs) ∷ slot_wants csrs rest
+-- the registers of these numbers are wanted as r keeps them
+unfoldable pub number_wants : Registers → List ℕ → List Want
+number_wants r [] = []
+number_wants r (number ∷ numbers) = Control number (kept_value number r) ∷ number_wants r numbers
 
 -- n registers x, from number i on
 unfoldable pub numbered : ℕ → ℕ → List ℕ → List Want
@@ -25,7 +22,7 @@ numbered (suc n) i xs = Reg i (slice_index xs i) ∷ numbered n (suc i) xs
 -- those that every hart keeps, and the two that dret reads: the mode and the pc (External Debug Support, "Debug Control
 -- and Status" and "Debug PC")
 abbrev pub controls : Hart → List Want
-controls target = slot_wants target.csrs kept_slots ++ (Control csr_dcsr (dcsr_fixed + level target.mode) ∷ Control csr_dpc target.pc ∷ [])
+controls target = number_wants target.csrs kept_numbers ++ (Control csr_dcsr (dcsr_fixed + level target.mode) ∷ Control csr_dpc target.pc ∷ [])
 
 abbrev pub registers : Hart → List Want
 registers target = numbered 30 2 target.x

@@ -1,11 +1,9 @@
 -- What a writer of a block has written: its code, and its pool, which will stand at a place behind the code.
-use Rattle.std.specs.Prelude.{◌≡◌, ◌+◌, ℕ, List, [], ◌∷◌, ◌++◌, length}
+use Rattle.std.specs.Prelude.{◌≡◌, ◌+◌, ℕ, List, ◌++◌, length}
 use Rattle.rv_decode.specs.declared.Insn.{Insn}
-use Rattle.csr_file.specs.Kept.{kept_value}
-use Rattle.csr_file.specs.declared.registers.Registers.{Registers}
 use Rattle.rom_gen.specs.Items.{Width, Byte, Word, Double, all_insns, code}
 use Rattle.rom_gen.specs.Deeds.{Deed, all_deed_values, placed_deeds}
-use Rattle.rom_gen.specs.Wants.{Want, Control, all_values, placed, pool, want_items, want_values}
+use Rattle.rom_gen.specs.Wants.{Want, all_values, placed, pool, want_items, want_values}
 use Rattle.rom_gen.specs.declared.writer.Writer.{Writer}
 
 -- these instructions and these values of the pool were added
@@ -21,11 +19,6 @@ offset_of w = w.place + length w.pool.items
 -- the code and the pool of these wants were added
 abbrev pub Wrote : Writer → Writer → List Want → Type 0
 Wrote old new ws = Adds old new (all_insns (placed want_items want_values (offset_of old) ws)) (all_values want_values ws)
-
--- the registers of these numbers are wanted as r keeps them
-unfoldable pub number_wants : Registers → List ℕ → List Want
-number_wants r [] = []
-number_wants r (number ∷ numbers) = Control number (kept_value number r) ∷ number_wants r numbers
 
 -- the values of the rows of stores, and of the loads of the device block
 abbrev pub store_value : Width → ℕ

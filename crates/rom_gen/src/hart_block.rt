@@ -1,17 +1,17 @@
 //! The block that puts a hart back.
 
-ghost use Rattle.std.specs.Prelude.{◌≡◌, ◌+◌, ◌*◌, ◌<◌, ◌≤◌, All, IfOk, IsFalse, IsTrue, None, OnOk, length, map};
+ghost use Rattle.std.specs.Prelude.{◌≡◌, ◌+◌, ◌*◌, ◌<◌, ◌≤◌, All, IfOk, IsFalse, IsTrue, None, OnOk, length};
 ghost use Rattle.rv_alu.specs.Modes.{level};
 ghost use Rattle.csr_file.specs.Bits.{dcsr_fixed};
-ghost use Rattle.csr_file.specs.Legal.{keeps_value, kept_slots};
+ghost use Rattle.csr_file.specs.Legal.{keeps_value, kept_numbers};
 ghost use Rattle.csr_file.specs.Numbers.{is_debug_number};
 ghost use Rattle.hart_step.specs.Fit.{IsWellFormed};
 ghost use Rattle.rom_gen.specs.Executed.{RestoresHart};
-ghost use Rattle.rom_gen.specs.HartWants.{number_of, numbered};
+ghost use Rattle.rom_gen.specs.HartWants.{number_wants, numbered};
 ghost use Rattle.rom_gen.specs.Items.{all_insns};
 ghost use Rattle.rom_gen.specs.Rom.{hart_bytes, hart_items, hart_values};
 ghost use Rattle.rom_gen.specs.Wants.{Control, want_items, want_values};
-ghost use Rattle.rom_gen.specs.Writing.{Adds, Wrote, number_wants, offset_of};
+ghost use Rattle.rom_gen.specs.Writing.{Adds, Wrote, offset_of};
 
 use crate::rom::NoMemory;
 use crate::words::{csr, csr_small, dret};
@@ -73,7 +73,7 @@ impl Writer {
     }
 
     /// Puts control and status registers back, given their numbers.
-    fn slots(&mut self, numbers: &[u16], csrs: &CsrFile) -> Result<(), NoMemory>
+    fn controls(&mut self, numbers: &[u16], csrs: &CsrFile) -> Result<(), NoMemory>
         requires fit { All (λ n. n < 4096) numbers.now }
         requires kept { All (λ n. IsTrue (keeps_value n)) numbers.now }
         requires not_debug { All (λ n. IsFalse (is_debug_number n)) numbers.now }
@@ -105,7 +105,7 @@ impl Writer {
         ensures { OnOk result (Adds self.old self.new (all_insns (hart_items hart.now (offset_of self.old))) (hart_values hart.now)) }
     {
         let numbers = numbers();
-        self.slots(&numbers, hart.csrs())?;
+        self.controls(&numbers, hart.csrs())?;
         self.control(DCSR, debug_control(hart.mode()))?;
         self.control(DPC, hart.pc())?;
         self.registers(hart)?;
@@ -114,9 +114,9 @@ impl Writer {
 }
 
 /// The numbers of the registers that every hart keeps, in the order in which they are put back.
-#[tactic(auto, unfolding(csr_file::specs::Legal::kept_slots, csr_file::specs::Legal::keeps_value))]
+#[tactic(auto, unfolding(csr_file::specs::Legal::kept_numbers, csr_file::specs::Legal::is_kept_number, csr_file::specs::Legal::keeps_value))]
 fn numbers() -> [u16; 22]
-    ensures numbers { result ≡ map number_of kept_slots }
+    ensures numbers { result ≡ kept_numbers }
     ensures fit { All (λ n. n < 4096) result }
     ensures kept { All (λ n. IsTrue (keeps_value n)) result }
     ensures not_debug { All (λ n. IsFalse (is_debug_number n)) result }

@@ -1,4 +1,3 @@
-pub mod AddressLaws
 pub mod FindLaws
 pub mod BitLaws
 pub mod PickLaws

@@ -21,35 +21,35 @@ waiting-set mip live mie n = has_bit-and (bit_or mip live) mie n ∙ ap (λ b. b
 
 -- the bits of all that waits and is not delegated, and of all that waits and is delegated
 abbrev pub machine_set : Registers → ℕ → ℕ
-machine_set r live = bit_and (bit_and (bit_or r.mip live) r.mie) (all_bits - r.mideleg)
+machine_set r live = bit_and (bit_and (bit_or r.kept.mip live) r.kept.mie) (all_bits - r.kept.mideleg)
 
 abbrev pub supervisor_set : Registers → ℕ → ℕ
-supervisor_set r live = bit_and (bit_and (bit_or r.mip live) r.mie) r.mideleg
+supervisor_set r live = bit_and (bit_and (bit_or r.kept.mip live) r.kept.mie) r.kept.mideleg
 
 open_and : (b x y : Bool) → b ≡ true → x ≡ y → x ≡ (b && y)
 open_and true x y is_open same = same
 open_and false x y is_open same = absurd (cc)
 
-machine_bit : (r : Registers) (mode : Mode) (live n : ℕ) → is_machine_open r mode ≡ true → r.mideleg < 2 ^ 64 → n < 64 → has_bit (machine_set r live) n ≡ traps_to_machine r mode live n
+machine_bit : (r : Registers) (mode : Mode) (live n : ℕ) → is_machine_open r mode ≡ true → r.kept.mideleg < 2 ^ 64 → n < 64 → has_bit (machine_set r live) n ≡ traps_to_machine r mode live n
 machine_bit r mode live n is_open fits within =
-    open_and (is_machine_open r mode) _ _ is_open (has_bit-and (bit_and (bit_or r.mip live) r.mie) (all_bits - r.mideleg) n ∙ ap₂ (λ a b. a && b) (waiting-set r.mip live r.mie n) (has_bit-not r.mideleg n fits within))
+    open_and (is_machine_open r mode) _ _ is_open (has_bit-and (bit_and (bit_or r.kept.mip live) r.kept.mie) (all_bits - r.kept.mideleg) n ∙ ap₂ (λ a b. a && b) (waiting-set r.kept.mip live r.kept.mie n) (has_bit-not r.kept.mideleg n fits within))
 
 supervisor_bit : (r : Registers) (mode : Mode) (live n : ℕ) → is_supervisor_open r mode ≡ true → has_bit (supervisor_set r live) n ≡ traps_to_supervisor r mode live n
 supervisor_bit r mode live n is_open =
-    open_and (is_supervisor_open r mode) _ _ is_open (has_bit-and (bit_and (bit_or r.mip live) r.mie) r.mideleg n ∙ ap (λ a. a && has_bit r.mideleg n) (waiting-set r.mip live r.mie n))
+    open_and (is_supervisor_open r mode) _ _ is_open (has_bit-and (bit_and (bit_or r.kept.mip live) r.kept.mie) r.kept.mideleg n ∙ ap (λ a. a && has_bit r.kept.mideleg n) (waiting-set r.kept.mip live r.kept.mie n))
 
 -- the code's answer o from the registers' values a, b and d
-pub machine_set-first : (r : Registers) (mode : Mode) (live a b d : ℕ) (o : Option ℕ) → is_machine_open r mode ≡ true → a ≡ r.mip → b ≡ r.mie → d ≡ r.mideleg → d < 2 ^ 64 → o ≡ find (has_bit (bit_and (bit_and (bit_or a live) b) (all_bits - d))) interrupt_order → o ≡ find (traps_to_machine r mode live) interrupt_order
+pub machine_set-first : (r : Registers) (mode : Mode) (live a b d : ℕ) (o : Option ℕ) → is_machine_open r mode ≡ true → a ≡ r.kept.mip → b ≡ r.kept.mie → d ≡ r.kept.mideleg → d < 2 ^ 64 → o ≡ find (has_bit (bit_and (bit_and (bit_or a live) b) (all_bits - d))) interrupt_order → o ≡ find (traps_to_machine r mode live) interrupt_order
 machine_set-first r mode live a b d o is_open a_is b_is d_is fits found =
     let first : ℕ → ℕ → ℕ → Option ℕ = λ x y z. find (has_bit (bit_and (bit_and (bit_or x live) y) (all_bits - z))) interrupt_order in
     let bit : (n : ℕ) → n < 64 → has_bit (machine_set r live) n ≡ traps_to_machine r mode live n = λ n. machine_bit r mode live n is_open (subst (λ x. x < 2 ^ 64) d_is fits) in
-    found ∙ ap (λ x. first x b d) a_is ∙ ap (λ x. first r.mip x d) b_is ∙ ap (λ x. first r.mip r.mie x) d_is ∙ find-same (has_bit (machine_set r live)) (traps_to_machine r mode live) interrupt_order (bit 11 (lit< tt), (bit 3 (lit< tt), (bit 7 (lit< tt), (bit 9 (lit< tt), (bit 1 (lit< tt), (bit 5 (lit< tt), tt))))))
+    found ∙ ap (λ x. first x b d) a_is ∙ ap (λ x. first r.kept.mip x d) b_is ∙ ap (λ x. first r.kept.mip r.kept.mie x) d_is ∙ find-same (has_bit (machine_set r live)) (traps_to_machine r mode live) interrupt_order (bit 11 (lit< tt), (bit 3 (lit< tt), (bit 7 (lit< tt), (bit 9 (lit< tt), (bit 1 (lit< tt), (bit 5 (lit< tt), tt))))))
 
-pub supervisor_set-first : (r : Registers) (mode : Mode) (live a b d : ℕ) (o : Option ℕ) → is_supervisor_open r mode ≡ true → a ≡ r.mip → b ≡ r.mie → d ≡ r.mideleg → o ≡ find (has_bit (bit_and (bit_and (bit_or a live) b) d)) interrupt_order → o ≡ find (traps_to_supervisor r mode live) interrupt_order
+pub supervisor_set-first : (r : Registers) (mode : Mode) (live a b d : ℕ) (o : Option ℕ) → is_supervisor_open r mode ≡ true → a ≡ r.kept.mip → b ≡ r.kept.mie → d ≡ r.kept.mideleg → o ≡ find (has_bit (bit_and (bit_and (bit_or a live) b) d)) interrupt_order → o ≡ find (traps_to_supervisor r mode live) interrupt_order
 supervisor_set-first r mode live a b d o is_open a_is b_is d_is found =
     let first : ℕ → ℕ → ℕ → Option ℕ = λ x y z. find (has_bit (bit_and (bit_and (bit_or x live) y) z)) interrupt_order in
     let bit : (n : ℕ) → has_bit (supervisor_set r live) n ≡ traps_to_supervisor r mode live n = λ n. supervisor_bit r mode live n is_open in
-    found ∙ ap (λ x. first x b d) a_is ∙ ap (λ x. first r.mip x d) b_is ∙ ap (λ x. first r.mip r.mie x) d_is ∙ find-same (has_bit (supervisor_set r live)) (traps_to_supervisor r mode live) interrupt_order (bit 11, (bit 3, (bit 7, (bit 9, (bit 1, (bit 5, tt))))))
+    found ∙ ap (λ x. first x b d) a_is ∙ ap (λ x. first r.kept.mip x d) b_is ∙ ap (λ x. first r.kept.mip r.kept.mie x) d_is ∙ find-same (has_bit (supervisor_set r live)) (traps_to_supervisor r mode live) interrupt_order (bit 11, (bit 3, (bit 7, (bit 9, (bit 1, (bit 5, tt))))))
 
 -- ---- numbers of interrupts
 
@@ -127,12 +127,12 @@ own_signal-is c n h = by_test (n == c) (has_bit (own_signal c) n) (eqb-true n c)
 -- what waits under the own signal of an interrupt that waits under all live signals waits under these too
 waits_less : (r : Registers) (live c n : ℕ) → is_waiting r live c ≡ true → is_waiting r (own_signal c) n ≡ true → is_waiting r live n ≡ true
 waits_less r live c n waits h =
-    let here : (has_bit r.mip c || has_bit live c) ≡ true = (and_parts _ (has_bit r.mie c) waits).0 in
-    or_grows (has_bit r.mip n) (has_bit (own_signal c) n) (has_bit live n) (has_bit r.mie n) (λ alone. subst (λ k. (has_bit r.mip k || has_bit live k) ≡ true) (sym (own_signal-is c n alone)) here) h
+    let here : (has_bit r.kept.mip c || has_bit live c) ≡ true = (and_parts _ (has_bit r.kept.mie c) waits).0 in
+    or_grows (has_bit r.kept.mip n) (has_bit (own_signal c) n) (has_bit live n) (has_bit r.kept.mie n) (λ alone. subst (λ k. (has_bit r.kept.mip k || has_bit live k) ≡ true) (sym (own_signal-is c n alone)) here) h
 
 waits_own : (r : Registers) (live c : ℕ) (p : ℕ → Bool) → IsGiven csr_mip live → find p interrupt_order ≡ Some c → is_waiting r live c ≡ true → is_waiting r (own_signal c) c ≡ true
 waits_own r live c p given found waits =
-    or_grows (has_bit r.mip c) (has_bit live c) (has_bit (own_signal c) c) (has_bit r.mie c) (λ alive. or_right (has_bit r.mip c) (has_bit (own_signal c) c) (driven live c p given found alive)) waits
+    or_grows (has_bit r.kept.mip c) (has_bit live c) (has_bit (own_signal c) c) (has_bit r.kept.mie c) (λ alive. or_right (has_bit r.kept.mip c) (has_bit (own_signal c) c) (driven live c p given found alive)) waits
 
 -- the first that traps under all live signals is the first under its own signal alone; gate and side are what else it needs
 first_under_own : (r : Registers) (live c : ℕ) (gate : Bool) (side : ℕ → Bool) → IsGiven csr_mip live → let p : ℕ → Bool = λ n. gate && (is_waiting r live n && side n) in let q : ℕ → Bool = λ n. gate && (is_waiting r (own_signal c) n && side n) in find p interrupt_order ≡ Some c → find q interrupt_order ≡ Some c
@@ -148,7 +148,7 @@ first_under_own r live c gate side given found =
 -- where nothing traps to M under all live signals, nothing does under the own signal of one that waits
 none_under_own : (r : Registers) (mode : Mode) (live c : ℕ) → is_waiting r live c ≡ true → find (traps_to_machine r mode live) interrupt_order ≡ None → find (traps_to_machine r mode (own_signal c)) interrupt_order ≡ None
 none_under_own r mode live c waits none =
-    find-none (traps_to_machine r mode live) (traps_to_machine r mode (own_signal c)) (λ n. and_grows (is_machine_open r mode) (is_waiting r (own_signal c) n) (is_waiting r live n) (not (has_bit r.mideleg n)) (waits_less r live c n waits)) interrupt_order none
+    find-none (traps_to_machine r mode live) (traps_to_machine r mode (own_signal c)) (λ n. and_grows (is_machine_open r mode) (is_waiting r (own_signal c) n) (is_waiting r live n) (not (has_bit r.kept.mideleg n)) (waits_less r live c n waits)) interrupt_order none
 
 picked_is : (r : Registers) (mode : Mode) (live c : ℕ) → is_some r.debug ≡ false → option_or (find (traps_to_machine r mode live) interrupt_order) (find (traps_to_supervisor r mode live) interrupt_order) ≡ Some c → picked r mode live ≡ Some c
 unfolding picked
@@ -157,14 +157,14 @@ picked_is r mode live c outside first = cond-false (is_some r.debug) None _ outs
 pub machine-permitted : (r : Registers) (mode : Mode) (live c : ℕ) → IsGiven csr_mip live → is_some r.debug ≡ false → find (traps_to_machine r mode live) interrupt_order ≡ Some c → may_be_taken r mode c ≡ true
 unfolding may_be_taken
 machine-permitted r mode live c given outside found =
-    let m : find (traps_to_machine r mode (own_signal c)) interrupt_order ≡ Some c = first_under_own r live c (is_machine_open r mode) (λ n. not (has_bit r.mideleg n)) given found in
+    let m : find (traps_to_machine r mode (own_signal c)) interrupt_order ≡ Some c = first_under_own r live c (is_machine_open r mode) (λ n. not (has_bit r.kept.mideleg n)) given found in
     some-is_interrupt c _ (picked_is r mode (own_signal c) c outside (ap (λ o. option_or o (find (traps_to_supervisor r mode (own_signal c)) interrupt_order)) m))
 
 pub supervisor-permitted : (r : Registers) (mode : Mode) (live c : ℕ) → IsGiven csr_mip live → is_some r.debug ≡ false → find (traps_to_machine r mode live) interrupt_order ≡ None → find (traps_to_supervisor r mode live) interrupt_order ≡ Some c → may_be_taken r mode c ≡ true
 unfolding may_be_taken
 supervisor-permitted r mode live c given outside none found =
-    let s : find (traps_to_supervisor r mode (own_signal c)) interrupt_order ≡ Some c = first_under_own r live c (is_supervisor_open r mode) (has_bit r.mideleg) given found in
+    let s : find (traps_to_supervisor r mode (own_signal c)) interrupt_order ≡ Some c = first_under_own r live c (is_supervisor_open r mode) (has_bit r.kept.mideleg) given found in
     let passes : traps_to_supervisor r mode live c ≡ true = find-passes (traps_to_supervisor r mode live) interrupt_order c found in
-    let waits : is_waiting r live c ≡ true = middle (is_supervisor_open r mode) (is_waiting r live c) (has_bit r.mideleg c) passes in
+    let waits : is_waiting r live c ≡ true = middle (is_supervisor_open r mode) (is_waiting r live c) (has_bit r.kept.mideleg c) passes in
     let m : find (traps_to_machine r mode (own_signal c)) interrupt_order ≡ None = none_under_own r mode live c waits none in
     some-is_interrupt c _ (picked_is r mode (own_signal c) c outside (ap (λ o. option_or o (find (traps_to_supervisor r mode (own_signal c)) interrupt_order)) m ∙ s))

@@ -12,8 +12,8 @@ use Rattle.trap_rules.specs.Status.{machine_stacked, supervisor_stacked}
 -- medeleg delegates exceptions and mideleg interrupts, each by the bit of its number
 -- (Privileged ISA, "Machine Trap Delegation Registers")
 abbrev pub is_delegated : Registers → Cause → Bool
-is_delegated r (Cause.Exception n) = has_bit r.medeleg n
-is_delegated r (Cause.Interrupt n) = has_bit r.mideleg n
+is_delegated r (Cause.Exception n) = has_bit r.kept.medeleg n
+is_delegated r (Cause.Interrupt n) = has_bit r.kept.mideleg n
 
 -- what is delegated goes to S, but no trap goes from M to a lower mode
 abbrev pub goes_to_supervisor : Registers → Mode → Cause → Bool
@@ -39,19 +39,19 @@ handler vector (Cause.Interrupt n) =
 
 -- the pc at which the hart goes on
 abbrev pub handler_pc : Registers → Mode → Cause → ℕ
-handler_pc r mode cause = handler (if goes_to_supervisor r mode cause then r.stvec else r.mtvec) cause
+handler_pc r mode cause = handler (if goes_to_supervisor r mode cause then r.kept.stvec else r.kept.mtvec) cause
 
 -- the registers after entry to M: mepc, mcause and mtval tell of the trap
 -- (Privileged ISA, "Machine Exception Program Counter", "Machine Cause Register", "Machine Trap Value Register")
 unfoldable pub machine_entered : Mode → Cause → ℕ → ℕ → Registers → Registers
 machine_entered mode cause tval pc r =
-    written csr_mtval tval (written csr_mcause (cause_word cause) (written csr_mepc pc (written csr_mstatus (machine_stacked mode r.mstatus) r)))
+    written csr_mtval tval (written csr_mcause (cause_word cause) (written csr_mepc pc (written csr_mstatus (machine_stacked mode r.kept.mstatus) r)))
 
 -- the registers after entry to S: sepc, scause and stval tell of the trap
 -- (Privileged ISA, "Supervisor Exception Program Counter", "Supervisor Cause Register", "Supervisor Trap Value Register")
 unfoldable pub supervisor_entered : Mode → Cause → ℕ → ℕ → Registers → Registers
 supervisor_entered mode cause tval pc r =
-    written csr_stval tval (written csr_scause (cause_word cause) (written csr_sepc pc (written csr_mstatus (supervisor_stacked mode r.mstatus) r)))
+    written csr_stval tval (written csr_scause (cause_word cause) (written csr_sepc pc (written csr_mstatus (supervisor_stacked mode r.kept.mstatus) r)))
 
 -- the registers after entry
 unfoldable pub entered : Mode → Cause → ℕ → ℕ → Registers → Registers

@@ -7,30 +7,30 @@ use Rattle.rv_alu.specs.Modes.{level}
 use Rattle.csr_file.specs.Bits.{mstatus_mie, mstatus_sie}
 use Rattle.csr_file.specs.declared.registers.Registers.{Registers}
 use Rattle.trap_rules.specs.declared.Cause.{Cause}
-use Rattle.trap_rules.specs.Status.{has}
+use Rattle.trap_rules.specs.Status.{has_any}
 use Rattle.rv_alu.specs.Bits.{has_bit}
 
 -- interrupt n is pending, by the software bits or by a live signal, and mie enables it
 abbrev pub is_waiting : Registers → ℕ → ℕ → Bool
-is_waiting r live n = (has_bit r.mip n || has_bit live n) && has_bit r.mie n
+is_waiting r live n = (has_bit r.kept.mip n || has_bit live n) && has_bit r.kept.mie n
 
 -- an interrupt bound for M can be taken below M, and in M where MIE is set
 abbrev pub is_machine_open : Registers → Mode → Bool
-is_machine_open r mode = not (level mode == 3) || has r.mstatus mstatus_mie
+is_machine_open r mode = not (level mode == 3) || has_any r.kept.mstatus mstatus_mie
 
 -- an interrupt bound for S can be taken in U, in S where SIE is set, and never in M
 abbrev pub is_supervisor_open : Registers → Mode → Bool
 is_supervisor_open r Mode.U = true
-is_supervisor_open r Mode.S = has r.mstatus mstatus_sie
+is_supervisor_open r Mode.S = has_any r.kept.mstatus mstatus_sie
 is_supervisor_open r Mode.M = false
 
 -- interrupt n traps to M: it waits, and mideleg does not delegate it
 abbrev pub traps_to_machine : Registers → Mode → ℕ → ℕ → Bool
-traps_to_machine r mode live n = is_machine_open r mode && (is_waiting r live n && not (has_bit r.mideleg n))
+traps_to_machine r mode live n = is_machine_open r mode && (is_waiting r live n && not (has_bit r.kept.mideleg n))
 
 -- interrupt n traps to S: it waits, and mideleg delegates it
 abbrev pub traps_to_supervisor : Registers → Mode → ℕ → ℕ → Bool
-traps_to_supervisor r mode live n = is_supervisor_open r mode && (is_waiting r live n && has_bit r.mideleg n)
+traps_to_supervisor r mode live n = is_supervisor_open r mode && (is_waiting r live n && has_bit r.kept.mideleg n)
 
 -- the order among interrupts for one mode: MEI, MSI, MTI, SEI, SSI, STI
 abbrev pub interrupt_order : List ℕ

@@ -11,11 +11,11 @@ use Rattle.trap_rules.specs.Status.{machine_previous, machine_unstacked, supervi
 
 -- the registers after mret, which goes to the mode in MPP at mepc
 unfoldable pub machine_returned : Registers → Registers
-machine_returned r = written csr_mstatus (machine_unstacked r.mstatus) r
+machine_returned r = written csr_mstatus (machine_unstacked r.kept.mstatus) r
 
 -- the registers after sret, which goes to the mode in SPP at sepc
 unfoldable pub supervisor_returned : Registers → Registers
-supervisor_returned r = written csr_mstatus (supervisor_unstacked r.mstatus) r
+supervisor_returned r = written csr_mstatus (supervisor_unstacked r.kept.mstatus) r
 
 -- the registers after dret, which leaves debug mode
 unfoldable pub debug_returned : Registers → Registers
@@ -33,11 +33,11 @@ resumed_pc (Some d) = d.dpc
 
 -- where a return from a handler goes: mret from one in M, and sret from one in S
 abbrev pub return_mode : Mode → Registers → Mode
-return_mode Mode.S r = supervisor_previous r.mstatus
-return_mode Mode.M r = machine_previous r.mstatus
+return_mode Mode.S r = supervisor_previous r.kept.mstatus
+return_mode Mode.M r = machine_previous r.kept.mstatus
 return_mode Mode.U r = Mode.U
 
 abbrev pub return_pc : Mode → Registers → ℕ
-return_pc Mode.S r = r.sepc
-return_pc Mode.M r = r.mepc
+return_pc Mode.S r = r.kept.sepc
+return_pc Mode.M r = r.kept.mepc
 return_pc Mode.U r = 0

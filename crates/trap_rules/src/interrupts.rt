@@ -7,7 +7,7 @@ ghost use Rattle.rv_alu.specs.Bits.{has_bit};
 ghost use Rattle.trap_rules.specs.Interrupt.{interrupt_order, is_machine_open, is_supervisor_open, may_be_taken, own_signal, picked, traps_to_machine, traps_to_supervisor};
 
 use crate::registers::{mideleg, mie, mip, mstatus};
-use crate::status::has;
+use crate::status::has_any;
 use csr_file::CsrFile;
 use csr_file::masks::{MSTATUS_MIE, MSTATUS_SIE};
 use rv_alu::{Mode, has_bit};
@@ -16,7 +16,7 @@ use rv_alu::{Mode, has_bit};
 fn is_machine_open(csrs: &CsrFile, mode: Mode) -> bool
     ensures { result ≡ is_machine_open csrs.now mode }
 {
-    mode != Mode::M || has(mstatus(csrs), MSTATUS_MIE)
+    mode != Mode::M || has_any(mstatus(csrs), MSTATUS_MIE)
 }
 
 /// Whether an interrupt bound for supervisor mode can be taken.
@@ -25,7 +25,7 @@ fn is_supervisor_open(csrs: &CsrFile, mode: Mode) -> bool
 {
     match mode {
         Mode::U => true,
-        Mode::S => has(mstatus(csrs), MSTATUS_SIE),
+        Mode::S => has_any(mstatus(csrs), MSTATUS_SIE),
         Mode::M => false,
     }
 }

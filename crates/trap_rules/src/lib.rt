@@ -14,7 +14,7 @@ pub use entry::enter;
 pub use interrupts::{may_take, pick};
 pub use registers::{mie, mstatus};
 pub use returns::{dret, mret, sret};
-pub use status::{has, machine_previous};
+pub use status::{has_any, machine_previous};
 
 /// Why a trap comes, by the number that the cause register gets (Privileged ISA, "Machine Cause Register").
 #[derive(Clone, Copy, PartialEq, Eq, Debug)]

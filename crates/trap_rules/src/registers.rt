@@ -1,5 +1,5 @@
 //! The registers of traps, read and written by name.
-#![tactic(auto, unfolding(csr_file::specs::Legal::keeps_value, csr_file::specs::Legal::slots, csr_file::specs::Legal::kept_slots, csr_file::specs::Kept::kept_value, csr_file::specs::Numbers::is_listed))]
+#![tactic(auto, unfolding(csr_file::specs::Legal::keeps_value, csr_file::specs::Legal::is_kept_number, csr_file::specs::Legal::kept_numbers, csr_file::specs::Kept::kept_in, csr_file::specs::Kept::kept_value, csr_file::specs::Numbers::is_listed))]
 
 ghost use Rattle.std.specs.Prelude.{◌≡◌, ◌%◌};
 ghost use Rattle.csr_file.specs.Numbers.{csr_mcause, csr_mepc, csr_mstatus, csr_mtval, csr_scause, csr_sepc, csr_stval};
@@ -12,57 +12,57 @@ use csr_file::numbers::{
 
 /// The register `mstatus`.
 pub fn mstatus(csrs: &CsrFile) -> u64
-    ensures { result ≡ csrs.now.mstatus }
+    ensures { result ≡ csrs.now.kept.mstatus }
 {
     csrs.kept(MSTATUS)
 }
 
 pub(crate) fn medeleg(csrs: &CsrFile) -> u64
-    ensures { result ≡ csrs.now.medeleg }
+    ensures { result ≡ csrs.now.kept.medeleg }
 {
     csrs.kept(MEDELEG)
 }
 
 pub(crate) fn mideleg(csrs: &CsrFile) -> u64
-    ensures { result ≡ csrs.now.mideleg }
+    ensures { result ≡ csrs.now.kept.mideleg }
 {
     csrs.kept(MIDELEG)
 }
 
 /// The register `mie`.
 pub fn mie(csrs: &CsrFile) -> u64
-    ensures { result ≡ csrs.now.mie }
+    ensures { result ≡ csrs.now.kept.mie }
 {
     csrs.kept(MIE)
 }
 
 pub(crate) fn mip(csrs: &CsrFile) -> u64
-    ensures { result ≡ csrs.now.mip }
+    ensures { result ≡ csrs.now.kept.mip }
 {
     csrs.kept(MIP)
 }
 
 pub(crate) fn mtvec(csrs: &CsrFile) -> u64
-    ensures { result ≡ csrs.now.mtvec }
+    ensures { result ≡ csrs.now.kept.mtvec }
 {
     csrs.kept(MTVEC)
 }
 
 pub(crate) fn stvec(csrs: &CsrFile) -> u64
-    ensures { result ≡ csrs.now.stvec }
+    ensures { result ≡ csrs.now.kept.stvec }
 {
     csrs.kept(STVEC)
 }
 
 pub(crate) fn mepc(csrs: &CsrFile) -> u64
-    ensures value { result ≡ csrs.now.mepc }
+    ensures value { result ≡ csrs.now.kept.mepc }
     ensures even { result % 2 ≡ 0 }
 {
     csrs.kept(MEPC)
 }
 
 pub(crate) fn sepc(csrs: &CsrFile) -> u64
-    ensures value { result ≡ csrs.now.sepc }
+    ensures value { result ≡ csrs.now.kept.sepc }
     ensures even { result % 2 ≡ 0 }
 {
     csrs.kept(SEPC)

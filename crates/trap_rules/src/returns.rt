@@ -18,8 +18,8 @@ pub fn mret(csrs: &mut CsrFile) -> (Mode, u64)
     requires { IsNone csrs.old.debug }
     ensures registers { csrs.new ≡ machine_returned csrs.old }
     ensures outside_debug { IsNone csrs.new.debug }
-    ensures mode { result.0 ≡ machine_previous csrs.old.mstatus }
-    ensures pc { result.1 ≡ csrs.old.mepc }
+    ensures mode { result.0 ≡ machine_previous csrs.old.kept.mstatus }
+    ensures pc { result.1 ≡ csrs.old.kept.mepc }
     ensures even { result.1 % 2 ≡ 0 }
 {
     let status = mstatus(csrs);
@@ -34,8 +34,8 @@ pub fn sret(csrs: &mut CsrFile) -> (Mode, u64)
     requires { IsNone csrs.old.debug }
     ensures registers { csrs.new ≡ supervisor_returned csrs.old }
     ensures outside_debug { IsNone csrs.new.debug }
-    ensures mode { result.0 ≡ supervisor_previous csrs.old.mstatus }
-    ensures pc { result.1 ≡ csrs.old.sepc }
+    ensures mode { result.0 ≡ supervisor_previous csrs.old.kept.mstatus }
+    ensures pc { result.1 ≡ csrs.old.kept.sepc }
     ensures even { result.1 % 2 ≡ 0 }
 {
     let status = mstatus(csrs);

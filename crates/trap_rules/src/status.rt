@@ -2,7 +2,7 @@
 #![tactic(auto, unfolding(crate::specs::Status::machine_stacked, crate::specs::Status::supervisor_stacked, crate::specs::Status::machine_unstacked, crate::specs::Status::supervisor_unstacked))]
 
 ghost use Rattle.std.specs.Prelude.{◌≡◌};
-ghost use Rattle.trap_rules.specs.Status.{bits_if, has, machine_previous, machine_stacked, machine_unstacked, supervisor_previous, supervisor_stacked, supervisor_unstacked};
+ghost use Rattle.trap_rules.specs.Status.{bits_if, has_any, machine_previous, machine_stacked, machine_unstacked, supervisor_previous, supervisor_stacked, supervisor_unstacked};
 
 use csr_file::masks::{
     MSTATUS_MIE, MSTATUS_MPIE, MSTATUS_MPP, MSTATUS_MPRV, MSTATUS_SIE, MSTATUS_SPIE, MSTATUS_SPP,
@@ -10,9 +10,9 @@ use csr_file::masks::{
 use csr_file::merge;
 use rv_alu::{Mode, mode_of};
 
-/// Whether the word has a bit of the mask.
-pub fn has(word: u64, mask: u64) -> bool
-    ensures { result ≡ has word mask }
+/// Whether the word has any of the bits of the mask.
+pub fn has_any(word: u64, mask: u64) -> bool
+    ensures { result ≡ has_any word mask }
 {
     word & mask != 0
 }
@@ -35,7 +35,7 @@ pub fn machine_previous(status: u64) -> Mode
 pub(crate) fn supervisor_previous(status: u64) -> Mode
     ensures { result ≡ supervisor_previous status }
 {
-    if has(status, MSTATUS_SPP) {
+    if has_any(status, MSTATUS_SPP) {
         Mode::S
     } else {
         Mode::U
@@ -46,7 +46,7 @@ pub(crate) fn supervisor_previous(status: u64) -> Mode
 pub(crate) fn machine_stacked(mode: Mode, status: u64) -> u64
     ensures { result ≡ machine_stacked mode status }
 {
-    let enabled = bits_if(has(status, MSTATUS_MIE), MSTATUS_MPIE);
+    let enabled = bits_if(has_any(status, MSTATUS_MIE), MSTATUS_MPIE);
     let from = (mode as u64) << 11;
     merge(
         MSTATUS_MIE + MSTATUS_MPIE + MSTATUS_MPP,
@@ -59,7 +59,7 @@ pub(crate) fn machine_stacked(mode: Mode, status: u64) -> u64
 pub(crate) fn supervisor_stacked(mode: Mode, status: u64) -> u64
     ensures { result ≡ supervisor_stacked mode status }
 {
-    let enabled = bits_if(has(status, MSTATUS_SIE), MSTATUS_SPIE);
+    let enabled = bits_if(has_any(status, MSTATUS_SIE), MSTATUS_SPIE);
     let from = bits_if(mode == Mode::S, MSTATUS_SPP);
     merge(
         MSTATUS_SIE + MSTATUS_SPIE + MSTATUS_SPP,
@@ -73,7 +73,7 @@ pub(crate) fn machine_unstacked(status: u64) -> u64
     ensures { result ≡ machine_unstacked status }
 {
     let cleared = bits_if(machine_previous(status) != Mode::M, MSTATUS_MPRV);
-    let enabled = bits_if(has(status, MSTATUS_MPIE), MSTATUS_MIE);
+    let enabled = bits_if(has_any(status, MSTATUS_MPIE), MSTATUS_MIE);
     merge(
         MSTATUS_MIE + MSTATUS_MPIE + MSTATUS_MPP + cleared,
         status,
@@ -85,7 +85,7 @@ pub(crate) fn machine_unstacked(status: u64) -> u64
 pub(crate) fn supervisor_unstacked(status: u64) -> u64
     ensures { result ≡ supervisor_unstacked status }
 {
-    let enabled = bits_if(has(status, MSTATUS_SPIE), MSTATUS_SIE);
+    let enabled = bits_if(has_any(status, MSTATUS_SPIE), MSTATUS_SIE);
     merge(
         MSTATUS_SIE + MSTATUS_SPIE + MSTATUS_SPP + MSTATUS_MPRV,
         status,

@@ -3,7 +3,7 @@
 
 ghost use Rattle.std.specs.Prelude.{◌≡◌, ◌+◌, ◌^◌, ◌-◌, bit_and, min};
 ghost use Rattle.csr_file.specs.View.{volatile_bits};
-ghost use Rattle.trap_rules.specs.Interrupt.{may_be_taken, picked};
+ghost use Rattle.trap_rules.specs.Interrupt.{picked};
 ghost use Rattle.rv_alu.specs.Bits.{low_bytes};
 
 mod atomic;
@@ -78,20 +78,22 @@ fn cut(word: u64, num: u16) -> u64
 
 impl Answers for Fixed {
     ghost use Rattle.csr_file.specs.Numbers.{csr_mip};
+    ghost use Rattle.hart_step.specs.Answers.{Loads, Stores, Untouched};
 
     ghost ready = { λ fixed hart. Unit {0} };
 
-    ghost interrupts = { λ fixed hart registers mode. picked registers mode (bit_and fixed.live (volatile_bits csr_mip)) };
+    ghost says = { λ fixed hart. record {
+      interrupt = λ registers mode. picked registers mode (bit_and fixed.live (volatile_bits csr_mip));
+      device = λ at size. low_bytes size 0x91827364d5c6b7a8;
+      volatile = λ number registers. bit_and 0xf0e1d2c3b4a59687 (volatile_bits number);
+      may_win = fixed.wins;
+    } };
 
-    ghost devices = { λ fixed hart at size. low_bytes size 0x91827364d5c6b7a8 };
-
-    ghost volatiles = { λ fixed hart number registers. bit_and 0xf0e1d2c3b4a59687 (volatile_bits number) };
-
-    ghost wins = { λ fixed hart. fixed.wins };
-
-    ghost loaded = { λ fixed hart at size. record fixed { loads = min (fixed.loads + 1) (2 ^ 64 - 1) } };
-
-    ghost stored = { λ fixed hart at size value ram. record fixed { stores = min (fixed.stores + 1) (2 ^ 64 - 1); last = value } };
+    ghost after = { λ fixed hart ram. elim [
+      | Untouched ↦ fixed
+      | Loads at size ↦ record fixed { loads = min (fixed.loads + 1) (2 ^ 64 - 1) }
+      | Stores at size value ↦ record fixed { stores = min (fixed.stores + 1) (2 ^ 64 - 1); last = value }
+    ] };
 
     fn interrupt(&mut self, _hart: u8, csrs: &CsrFile, mode: Mode) -> Option<u8> {
         pick(csrs, mode, cut(self.live, MIP))
@@ -410,7 +412,7 @@ pub(crate) fn counted(rt: &impl Abort, core: &Core, want: (u64, u64), steps: u64
 }
 
 /// The kept `mcycle` and `minstret` of hart 0.
-#[tactic(auto, unfolding(csr_file::specs::Legal::keeps_value, csr_file::specs::Legal::slots, csr_file::specs::Legal::kept_slots, csr_file::specs::Kept::kept_value, csr_file::specs::Numbers::is_listed))]
+#[tactic(auto, unfolding(csr_file::specs::Legal::keeps_value, csr_file::specs::Legal::is_kept_number, csr_file::specs::Legal::kept_numbers, csr_file::specs::Kept::kept_in, csr_file::specs::Kept::kept_value, csr_file::specs::Numbers::is_listed))]
 fn kept_counters(csrs: &CsrFile) -> (u64, u64) {
     (csrs.kept(MCYCLE), csrs.kept(MINSTRET))
 }
@@ -560,7 +562,7 @@ fn entering(
 }
 
 /// `mepc`, `mcause`, `mtval` and `mstatus`.
-#[tactic(auto, unfolding(csr_file::specs::Legal::keeps_value, csr_file::specs::Legal::slots, csr_file::specs::Legal::kept_slots, csr_file::specs::Kept::kept_value, csr_file::specs::Numbers::is_listed))]
+#[tactic(auto, unfolding(csr_file::specs::Legal::keeps_value, csr_file::specs::Legal::is_kept_number, csr_file::specs::Legal::kept_numbers, csr_file::specs::Kept::kept_in, csr_file::specs::Kept::kept_value, csr_file::specs::Numbers::is_listed))]
 fn trap_registers(csrs: &CsrFile) -> (u64, u64, u64, u64) {
     (
         csrs.kept(MEPC),

@@ -131,7 +131,7 @@ pub(crate) fn booted(
 // ---- what is there of a machine
 
 /// What a hart keeps of its control and status registers.
-#[tactic(auto, unfolding(csr_file::specs::Legal::keeps_value, csr_file::specs::Legal::slots, csr_file::specs::Legal::kept_slots, csr_file::specs::Kept::kept_value, csr_file::specs::Numbers::is_listed))]
+#[tactic(auto, unfolding(csr_file::specs::Legal::keeps_value, csr_file::specs::Legal::is_kept_number, csr_file::specs::Legal::kept_numbers, csr_file::specs::Kept::kept_in, csr_file::specs::Kept::kept_value, csr_file::specs::Numbers::is_listed))]
 fn controls(csrs: &CsrFile) -> [u64; 22] {
     [
         csrs.kept(MSTATUS),

@@ -1,6 +1,7 @@
 use Rattle.std.proofs.Common.{◌+◌, ◌*◌, ◌≤◌, take}
-use Rattle.rom_gen.specs.Writing.{Wrote, number_wants, offset_of}
-use Rattle.rom_gen.proofs.writer.Writer.slots.Given as goal
+use Rattle.rom_gen.specs.HartWants.{number_wants}
+use Rattle.rom_gen.specs.Writing.{Wrote, offset_of}
+use Rattle.rom_gen.proofs.writer.Writer.controls.Given as goal
 
 -- as many as were gone over are written, and each added a value at most
 abbrev pub invariant-loop-number : goal.invariant-loop-number
