@@ -10,9 +10,10 @@ use Rattle.hart_step.specs.declared.event.Event.TheVariants.{Commit, Exception, 
 use Rattle.hart_step.specs.declared.event.Priv.{Priv}
 use Rattle.hart_step.specs.declared.event.Priv.TheVariants.{U, S, M, D}
 use Rattle.hart_step.specs.declared.event.Put.{Put}
+use Rattle.hart_step.specs.Events.{IsStored}
 use Rattle.commit_log.specs.declared.commit.Shown.{Shown}
 use Rattle.guest_ram.specs.Bytes.{IsSize}
-use Rattle.commit_log.specs.Spelling.{answer_part, hex, hex_digit, IsOptionalWord, IsSpellable, IsStoredAt, IsStorePart, line, mode_letter, number, place, register_part, store_part, volatile_part, word}
+use Rattle.commit_log.specs.Spelling.{answer_part, hex, hex_digit, IsOptionalWord, IsSpellable, IsStoredAt, line, mode_letter, number, place, register_part, store_part, volatile_part, word}
 use Rattle.commit_log.specs.Reading.{answer_of, answer_or_later, at_end, choice, commit_of, digits_of, event_of, exception_of, first_value, hart_value, hex_value, host_of, interrupt_of, mode_value, nothing, number_of, one, past, place_of, register_of, register_or_later, second_value, size_value, store_of, store_or_later, unless_end, volatile_of, with_second, word_of}
 use Rattle.commit_log.proofs.Grammar.{AreInRange, parts_of}
 use Rattle.commit_log.proofs.ReadDigits.{sixteen_times}
@@ -174,7 +175,7 @@ store_step : (xs : List ℕ) → unless_end nothing store_or_later (32 ∷ 115 �
 unfolding unless_end store_or_later choice past
 store_step xs = refl
 
-store_back : (st : Option Put) (dv vl : Option ℕ) → IsStorePart st → IsStoredAt st → IsOptionalWord dv → IsOptionalWord vl → unless_end nothing store_or_later (store_part st ++ (answer_part dv ++ volatile_part vl)) ≡ Ok (record nothing { st = st; dv = dv; vl = vl })
+store_back : (st : Option Put) (dv vl : Option ℕ) → IsStored st → IsStoredAt st → IsOptionalWord dv → IsOptionalWord vl → unless_end nothing store_or_later (store_part st ++ (answer_part dv ++ volatile_part vl)) ≡ Ok (record nothing { st = st; dv = dv; vl = vl })
 store_back None dv vl good far ok later = skip_store dv vl ∙ answer_back dv vl ok later
 store_back (Some st) dv vl good far ok later =
     ap (λ (ys : List ℕ). unless_end nothing store_or_later ys) (store_spelled st (answer_part dv ++ volatile_part vl))

@@ -4,9 +4,10 @@ use Rattle.std.proofs.lemmas.List.{append-nil}
 use Rattle.hart_step.specs.declared.event.Event.{Event}
 use Rattle.hart_step.specs.declared.event.Event.TheVariants.{Commit, Exception, Interrupt, Host}
 use Rattle.hart_step.specs.declared.event.Priv.{Priv}
+use Rattle.hart_step.specs.Events.{IsStored, IsWritten}
 use Rattle.commit_log.specs.declared.commit.Shown.{Shown}
 use Rattle.guest_ram.specs.Bytes.{IsSize}
-use Rattle.commit_log.specs.Spelling.{answer_part, IsOptionalWord, IsRegisterPart, IsSpellable, IsStoredAt, IsStorePart, IsWrittenWord, line, number, place, register_part, store_part, volatile_part, word}
+use Rattle.commit_log.specs.Spelling.{answer_part, IsOptionalWord, IsSpellable, IsStoredAt, IsWrittenWord, line, number, place, register_part, store_part, volatile_part, word}
 use Rattle.commit_log.specs.Reading.{answer_of, answer_or_later, choice, commit_of, event_of, exception_of, host_of, interrupt_of, nothing, register_of, register_or_later, store_of, store_or_later, unless_end, volatile_of}
 use Rattle.commit_log.proofs.Steady.{changed, choice_firsts, end_firsts, end_steady, Firsts, past_firsts, past_steady, Steady, steady, unless_end_steady, wider_firsts}
 use Rattle.commit_log.proofs.SteadyParts.{hart_steady, number_steady, place_steady, size_steady, word_firsts, word_steady}
@@ -14,8 +15,8 @@ use Rattle.commit_log.proofs.SteadyParts.{hart_steady, number_steady, place_stea
 -- ---- the parts of a commit that may be absent
 
 pub record AreInRange (t : Shown) : Type 0 where
-  pub register : IsRegisterPart t.rd
-  pub store : IsStorePart t.st
+  pub register : IsWritten t.rd
+  pub store : IsStored t.st
   pub written : IsWrittenWord t.rd
   pub stored : IsStoredAt t.st
   pub answer : IsOptionalWord t.dv

@@ -9,8 +9,9 @@ use Rattle.hart_step.specs.declared.event.Event.TheVariants.{Commit, Exception, 
 use Rattle.hart_step.specs.declared.event.Priv.{Priv}
 use Rattle.hart_step.specs.declared.event.Priv.TheVariants.{U, S, M, D}
 use Rattle.hart_step.specs.declared.event.Put.{Put}
+use Rattle.hart_step.specs.Events.{IsEvent, IsStored}
 use Rattle.guest_ram.specs.Bytes.{IsSize}
-use Rattle.commit_log.specs.Spelling.{answer_part, HasSpelling, hex, hex_digit, IsStorePart, line, mode_letter, number, place, register_part, store_part, volatile_part, word}
+use Rattle.commit_log.specs.Spelling.{answer_part, hex, hex_digit, line, mode_letter, number, place, register_part, store_part, volatile_part, word}
 
 -- no newline, and at most n characters
 record Plain (xs : List ℕ) (n : ℕ) : Type 0 where
@@ -80,7 +81,7 @@ size_most n is = grind arith
 value_plain : (size value : ℕ) → size ≤ 8 → Plain (word (2 * size) value) 17
 value_plain size value most = within _ (1 + 2 * size) 17 (omega arith) (word_plain (2 * size) value)
 
-store_plain : (st : Option Put) → IsStorePart st → Plain (store_part st) 39
+store_plain : (st : Option Put) → IsStored st → Plain (store_part st) 39
 store_plain None good = within [] 0 39 (omega arith) none
 store_plain (Some st) good =
     more 32 _ 38 (omega arith) (more 115 _ 37 (omega arith) (more 116 _ 36 (omega arith)
@@ -95,7 +96,7 @@ volatile_plain : (vl : Option ℕ) → Plain (volatile_part vl) 20
 volatile_plain None = within [] 0 20 (omega arith) none
 volatile_plain (Some v) = more 32 _ 19 (omega arith) (more 118 _ 18 (omega arith) (more 108 _ 17 (omega arith) (word_plain 16 v)))
 
-line_plain : (e : Event) → HasSpelling e → Plain (line e) 131
+line_plain : (e : Event) → IsEvent e → Plain (line e) 131
 unfolding line
 line_plain (Commit hart mode pc insn rd st dv vl) good =
     more 67 _ 130 (omega arith)
@@ -115,8 +116,8 @@ line_plain (Interrupt hart cause) good =
 line_plain (Host v) good =
     within _ 18 131 (omega arith) (more 72 _ 17 (omega arith) (word_plain 16 v))
 
-pub clean_lem : (e : Event) → HasSpelling e → All (λ c. c ≢ 10) (line e)
+pub clean_lem : (e : Event) → IsEvent e → All (λ c. c ≢ 10) (line e)
 clean_lem e good = All-from_recursion _ _ (line_plain e good).clean
 
-pub short_lem : (e : Event) → HasSpelling e → length (line e) ≤ 131
+pub short_lem : (e : Event) → IsEvent e → length (line e) ≤ 131
 short_lem e good = (line_plain e good).short

@@ -1,12 +1,12 @@
 -- The line of a record: how an event is spelled, as a list of character codes, without a newline. The grammar is
 -- this project's own.
-use Rattle.std.specs.Prelude.{ℕ, zero, suc, ◌+◌, ◌*◌, ◌/◌, ◌%◌, ◌^◌, ◌<◌, ◌≤◌, List, [], ◌∷◌, ◌++◌, codes, Option, Some, None, nat_lt, if◌then◌else◌}
-use Rattle.guest_ram.specs.Bytes.{IsSize}
+use Rattle.std.specs.Prelude.{ℕ, zero, suc, ◌+◌, ◌*◌, ◌/◌, ◌%◌, ◌^◌, ◌<◌, List, [], ◌∷◌, ◌++◌, codes, Option, Some, None, nat_lt, if◌then◌else◌}
 use Rattle.hart_step.specs.declared.event.Event.{Event}
 use Rattle.hart_step.specs.declared.event.Event.TheVariants.{Commit, Exception, Interrupt, Host}
 use Rattle.hart_step.specs.declared.event.Priv.{Priv}
 use Rattle.hart_step.specs.declared.event.Priv.TheVariants.{U, S, M, D}
 use Rattle.hart_step.specs.declared.event.Put.{Put}
+use Rattle.hart_step.specs.Events.{IsEvent}
 
 -- a lower-case hexadecimal digit
 abbrev pub hex_digit : ℕ → ℕ
@@ -65,25 +65,8 @@ line (Host v) = 72 ∷ word 16 v
 
 -- ---- which events have a spelling
 
--- a register that is shown is one of x1 to x31
-abbrev pub IsRegisterPart : Option (ℕ × ℕ) → Type 0
-IsRegisterPart None = Unit {0}
-IsRegisterPart (Some rd) = (1 ≤ rd.0) × (rd.0 ≤ 31)
-
--- a store that is shown has the size of an access, and a value of so many bytes
-abbrev pub IsStorePart : Option Put → Type 0
-IsStorePart None = Unit {0}
-IsStorePart (Some st) = IsSize st.size × (st.value < 256 ^ st.size)
-
--- The hart is one of eight, the cause is below 16, and what is shown is in range. The other fields are words of the
--- width of their type.
-abbrev pub HasSpelling : Event → Type 0
-HasSpelling (Commit hart mode pc insn rd st dv vl) = (hart < 8) × IsRegisterPart rd × IsStorePart st
-HasSpelling (Exception hart mode pc cause tval) = (hart < 8) × (cause < 16)
-HasSpelling (Interrupt hart cause) = (hart < 8) × (cause < 16)
-HasSpelling (Host v) = Unit {0}
-
--- The same, where the event of a clause ranges over all numbers: the words are in range too.
+-- Every event that is well formed has one, since its other fields are words of the width of their type. Where the event
+-- of a clause ranges over all numbers, these words are in range too.
 abbrev pub IsWord : ℕ → Type 0
 IsWord v = v < 2 ^ 64
 
@@ -108,4 +91,4 @@ HasWords (Host v) = IsWord v
 
 -- an event as the program has it, with a spelling
 abbrev pub IsSpellable : Event → Type 0
-IsSpellable e = HasSpelling e × HasWords e
+IsSpellable e = IsEvent e × HasWords e

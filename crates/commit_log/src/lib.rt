@@ -5,7 +5,8 @@
 ghost use Rattle.std.specs.Prelude.{◌≡◌, ◌≢◌, ◌≤◌, length};
 ghost use Rattle.std.specs.List.{All};
 ghost use Rattle.hart_step.specs.declared.event.Event.{Event};
-ghost use Rattle.commit_log.specs.Spelling.{HasSpelling, IsSpellable, line};
+ghost use Rattle.hart_step.specs.Events.{IsEvent};
+ghost use Rattle.commit_log.specs.Spelling.{IsSpellable, line};
 
 mod commit;
 mod line_buf;
@@ -15,7 +16,7 @@ mod reader;
 mod tests;
 mod writer;
 
-pub use line_buf::LineBuf;
+pub use line_buf::{LineBuf, hex_digit};
 pub use reader::{LineFault, read};
 pub use writer::write;
 
@@ -23,6 +24,6 @@ pub use writer::write;
 /// 131 bytes.
 pub fn one_spelling()
     ensures one { (a b : Event) → IsSpellable a → IsSpellable b → line a ≡ line b → a ≡ b }
-    ensures clean { (e : Event) → HasSpelling e → All (λ c. c ≢ 10) (line e) }
-    ensures short { (e : Event) → HasSpelling e → length (line e) ≤ 131 }
+    ensures clean { (e : Event) → IsEvent e → All (λ c. c ≢ 10) (line e) }
+    ensures short { (e : Event) → IsEvent e → length (line e) ≤ 131 }
 {}

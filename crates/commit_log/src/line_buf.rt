@@ -113,9 +113,10 @@ impl LineBuf {
 }
 
 /// A lower-case hexadecimal digit.
-fn hex_digit(digit: u64) -> u8
+pub fn hex_digit(digit: u64) -> u8
     requires { digit < 16 }
-    ensures { result ≡ hex_digit digit }
+    ensures value { result ≡ hex_digit digit }
+    ensures ascii { result < 128 }
 {
     if digit < 10 {
         b'0' + digit as u8

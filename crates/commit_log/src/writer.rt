@@ -1,7 +1,8 @@
 // The line of an event.
 
 ghost use Rattle.std.specs.Prelude.{◌≡◌, ◌+◌, ◌<◌, ◌≤◌, ◌++◌, ◌∷◌, length};
-ghost use Rattle.commit_log.specs.Spelling.{answer_part, HasSpelling, IsRegisterPart, IsStorePart, line, mode_letter, place, register_part, store_part, volatile_part};
+ghost use Rattle.hart_step.specs.Events.{IsEvent, IsStored, IsWritten};
+ghost use Rattle.commit_log.specs.Spelling.{answer_part, line, mode_letter, place, register_part, store_part, volatile_part};
 
 use crate::line_buf::LineBuf;
 use hart_step::{Event, Priv, Put};
@@ -34,7 +35,7 @@ fn put_place(buf: &mut LineBuf, letter: u8, hart: u8, mode: Priv, pc: u64)
 }
 
 fn put_register(buf: &mut LineBuf, rd: Option<(u8, u64)>)
-    requires register { IsRegisterPart rd }
+    requires register { IsWritten rd }
     requires room { length buf.old + 21 ≤ 255 }
     ensures value { buf.new ≡ buf.old ++ register_part rd }
     ensures length { length buf.new ≤ length buf.old + 21 }
@@ -47,7 +48,7 @@ fn put_register(buf: &mut LineBuf, rd: Option<(u8, u64)>)
 }
 
 fn put_store(buf: &mut LineBuf, st: Option<Put>)
-    requires store { IsStorePart st }
+    requires store { IsStored st }
     requires room { length buf.old + 39 ≤ 255 }
     ensures value { buf.new ≡ buf.old ++ store_part st }
     ensures length { length buf.new ≤ length buf.old + 39 }
@@ -91,7 +92,7 @@ fn put_volatile(buf: &mut LineBuf, vl: Option<u64>)
 /// stored is 1, 2, 4 or 8 bytes with a value that fits them.
 #[tactic(auto, unfolding(crate::specs::Spelling::line))]
 pub fn write(e: &Event, buf: &mut LineBuf)
-    requires { HasSpelling e.now }
+    requires { IsEvent e.now }
     ensures value { buf.new ≡ line e.now }
     ensures short { length buf.new ≤ 131 }
 {

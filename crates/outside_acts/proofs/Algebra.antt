@@ -7,7 +7,7 @@ use Rattle.outside_io.specs.Content.{Held, Told}
 use Rattle.outside_io.proofs.StreamLemmas.{more_appended}
 use Rattle.outside_acts.specs.declared.Stop.{Stop}
 use Rattle.outside_acts.specs.Acts.{Act, ReadTo, Send, Start, Append, Did, DidCut, IsCut, IsPart, filed, filed_by, read, read_by, sent, sent_by}
-use Rattle.outside_acts.specs.Calls.{Does, Stops}
+use Rattle.outside_acts.specs.Calls.{Does}
 use Rattle.outside_acts.specs.World.{World}
 
 -- the files are as these acts leave them
@@ -143,15 +143,6 @@ did_cut_later {xs = xs} first second = record {
 pub did_cut_sooner : {stop : Stop} {bytes : List ℕ} {from : ℕ} {xs : List Act} {a b : World} (ys : List Act)
     → DidCut stop bytes from xs a b → DidCut stop bytes from (xs ++ ys) a b
 did_cut_sooner ys cut = record { front = cut.front; cut = cut_sooner ys cut.cut; did = cut.did }
-
-pub stops_later : {stop : Stop} {xs ys : List Act} {a b c : World}
-    → Does xs a b → Stops stop ys b c → Stops stop (xs ++ ys) a c
-stops_later first second = λ bytes from is.
-    let did = first bytes from is in
-    did_cut_later did (second bytes _ did.left_is)
-
-pub stops_sooner : {stop : Stop} {xs : List Act} {a b : World} (ys : List Act) → Stops stop xs a b → Stops stop (xs ++ ys) a b
-stops_sooner ys cut = λ bytes from is. did_cut_sooner ys (cut bytes from is)
 
 -- ---- the console after a cut
 

@@ -4,7 +4,7 @@ use Rattle.commit_log.proofs.line_buf.LineBuf.put_hex.Goals as goal
 
 pub loop-place-preserved : goal.loop-place-preserved
 loop-place-preserved c = record {
-  digits = hex_goes_on _ _ _ c.loop-place.place c.args.value c.hex_digit.result (omega arith) c.put.ensures.value c.hex_digit.ensures c.loop-place.invariant.digits;
+  digits = hex_goes_on _ _ _ c.loop-place.place c.args.value c.hex_digit.result (omega arith) c.put.ensures.value c.hex_digit.ensures.value c.loop-place.invariant.digits;
   length = omega arith;
 }
 
