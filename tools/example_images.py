@@ -14,7 +14,7 @@ def main():
     parts = ["// The flat images of examples/, as examples/build.sh makes them; tools/example_images.py writes this file."]
     for name in NAMES:
         data = (TOP / "examples" / f"{name}.bin").read_bytes()
-        parts.append(f"pub(crate) static {name.upper()}: [u8; {len(data)}] = [\n" + "\n".join(rows(data)) + "\n];")
+        parts.append(f"pub(crate) const {name.upper()}: [u8; {len(data)}] = [\n" + "\n".join(rows(data)) + "\n];")
     path = TOP / "crates/dromajo/src/example_images.rt"
     path.write_text("\n\n".join(parts) + "\n")
 

@@ -1,19 +1,21 @@
 -- From the status before the report to the one that is answered.
-use Rattle.std.proofs.Common.{◌≡◌, ℕ, List, [], length, take, Option, Some, None, Result, Ok, Err, IfSome, refl, sym, ap, subst, ◌∙◌, inl, inr, arith}
+use Rattle.std.proofs.Common.{◌≡◌, ℕ, List, [], length, take, Option, Some, None, Result, Ok, Err, refl, sym, ap, subst, ◌∙◌, inl, inr, arith}
 use Rattle.std.proofs.lemmas.List.{take_all}
 use Rattle.std.specs.Io.KnownBytes.{Appends}
 use Rattle.outside_io.specs.Causes.{Rose}
 use Rattle.outside_io.specs.Content.{Held}
-use Rattle.job_words.specs.Job.{Job, Turns, Work}
+use Rattle.job_words.specs.Job.{Job, Work}
 use Rattle.outside_acts.specs.declared.Stop.{Stop}
 use Rattle.outside_acts.specs.Acts.{Did, sent}
 use Rattle.outside_acts.specs.World.{Counted, Reading, Writing, TheInput, Console, Counts, NonePassedOver, World}
 use Rattle.outside_acts.proofs.Algebra.{front_written, sent_none}
+use Rattle.machine_start.proofs.Telling.{told_map}
 use Rattle.dromajo.specs.declared.status.Status.{Status}
-use Rattle.dromajo.specs.declared.status.Status.TheVariants.{Done, Usage, BadConfig, BadElf, ReadFault, WriteFault, NoMemory, GuestEnded, BadHostWord}
+use Rattle.dromajo.specs.declared.status.Status.TheVariants.{Done, Usage, BadConfig, BadElf, BadCheckpoint, BootFault, ReadFault, WriteFault, NoMemory, GuestEnded, BadHostWord}
 use Rattle.dromajo.specs.declared.status.Which.TheVariants.{Files, Input, Out, Report}
 use Rattle.dromajo.specs.Classes.{Class, Refused, Ended, Failed, Unreported, Starved, Never, IsBefore, IsFinished, IsRefusal, IsSettled, IsUsage, before_by, caused, class_of, fails, finishes, settles}
-use Rattle.dromajo.specs.Jobs.{Begun, IsBegunOutcome, IsOutcome, Outcome, begun, ended}
+use Rattle.dromajo.specs.Jobs.{Begun, IsBegunOutcome, IsOutcome, Outcome, after_acts, begun, ended}
+use Rattle.dromajo.proofs.Jobs.{some_work}
 use Rattle.dromajo.specs.TopCall.{AnswersRefusal, DidOutcome, HasCause, HasJobCause, JobEnds, JobLeaves, JobStops, Leaves, SendsFront, SentFront, cause_by, leaves_by}
 
 -- ---- the one status of a class
@@ -23,6 +25,8 @@ is_unreported Done is = cc
 is_unreported Usage is = cc
 is_unreported (BadConfig fault) is = cc
 is_unreported (BadElf fault) is = cc
+is_unreported (BadCheckpoint fault) is = cc
+is_unreported (BootFault fault) is = cc
 is_unreported (ReadFault Files) is = cc
 is_unreported (ReadFault Input) is = cc
 is_unreported (ReadFault Out) is = cc
@@ -40,6 +44,8 @@ is_starved Done is = cc
 is_starved Usage is = cc
 is_starved (BadConfig fault) is = cc
 is_starved (BadElf fault) is = cc
+is_starved (BadCheckpoint fault) is = cc
+is_starved (BootFault fault) is = cc
 is_starved (ReadFault Files) is = cc
 is_starved (ReadFault Input) is = cc
 is_starved (ReadFault Out) is = cc
@@ -81,22 +87,17 @@ did_outcome job held input before answered line a b same ends = record {
   did = ends.did;
 }
 
-over : (h : Option Held) (l : Option (List ℕ)) (Says Also : Held → List ℕ → Type 0) → ((held : Held) (input : List ℕ) → Says held input → Also held input) → IfSome h (λ held. IfSome l (λ input. Says held input)) → IfSome h (λ held. IfSome l (λ input. Also held input))
-over None l Says Also step says = tt
-over (Some held) None Says Also step says = tt
-over (Some held) (Some input) Says Also step says = step held input says
-
 pub finished_leaves : (job : Option Job) (before answered : Status) (line : List ℕ) (a b : World) → IsFinished answered → IsBefore before answered → JobLeaves job before line a b → Leaves job answered a b
 finished_leaves job before answered line a b finished same left =
-    over a.held a.left (λ held input. leaves_by (class_of before) job held input before line a b) (λ held input. DidOutcome job held input answered a b)
-    (λ held input one. did_outcome job held input before answered line a b same (settled_ends (class_of before) job held input before line a b (finished_settled before answered finished same) one))
-    left
+    told_map _ _ a.held (λ held. told_map _ _ a.left (λ input one. did_outcome job held input before answered line a b same (settled_ends (class_of before) job held input before line a b (finished_settled before answered finished same) one))) left
 
 -- ---- the console
 
 some_begun : (work : Work) (input : List ℕ) (begun : Result Begun Status) → (outcome : Outcome) × IsBegunOutcome work input begun outcome
 some_begun work input (Err status) = (ended status 0 0 [], refl)
-some_begun (Turns turns logs) input (Ok b) = (_, refl)
+some_begun work input (Ok b) =
+    let some = some_work work b.machine input in
+    (after_acts b.acts some.0, (some.0, some.1, refl))
 
 -- a job may come to some outcome
 some_outcome : (job : Option Job) (held : Held) (input : List ℕ) → (outcome : Outcome) × IsOutcome job held input outcome
@@ -137,9 +138,7 @@ front_by Never job held input status line a b left = absurd left
 
 pub leaves_front : (job : Option Job) (status : Status) (line : List ℕ) (a b : World) → JobLeaves job status line a b → SendsFront job a b
 leaves_front job status line a b left =
-    over a.held a.left (λ held input. leaves_by (class_of status) job held input status line a b) (λ held input. SentFront job held input a b)
-    (λ held input one. front_by (class_of status) job held input status line a b one)
-    left
+    told_map _ _ a.held (λ held. told_map _ _ a.left (λ input one. front_by (class_of status) job held input status line a b one)) left
 
 -- ---- refusals
 

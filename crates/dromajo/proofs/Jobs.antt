@@ -1,25 +1,25 @@
 -- A job: its beginning, and then its work, over files, an input and a console that stand apart.
 use Rattle.std.proofs.Common.{◌≡◌, ℕ, List, [], Option, Some, None, Result, Ok, Err, IfSome, refl, sym, ap, subst, ◌∙◌, inl, inr}
 use Rattle.outside_io.specs.Content.{Held, Told}
-use Rattle.hart_turns.specs.Machine.{MachineState}
-use Rattle.job_words.specs.Job.{Job}
+use Rattle.hart_turns.specs.Machine.{MachineState, MachineView}
+use Rattle.job_words.specs.Job.{Job, Turns, Work}
 use Rattle.outside_acts.specs.declared.Stop.{Stop}
 use Rattle.outside_acts.specs.declared.Stop.TheVariants as stop
-use Rattle.outside_acts.specs.Acts.{Did}
+use Rattle.outside_acts.specs.Acts.{Did, DidCut, read}
 use Rattle.outside_acts.specs.World.{Reading, Writing, TheInput, Console, World}
-use Rattle.outside_acts.proofs.Algebra.{did_none}
+use Rattle.outside_acts.proofs.Algebra.{did_both, did_cut_later, did_cut_sooner, did_none}
 use Rattle.outside_acts.proofs.Apart.{did_apart, did_cut_apart}
 use Rattle.turn_runs.specs.declared.feed.Feed.{Feed}
-use Rattle.turn_runs.specs.Feeding.{IsFedFrom}
 use Rattle.turn_runs.specs.Reaching.{OverInput}
+use Rattle.turn_runs.specs.Resuming.{HasResumed, resume_acts}
 use Rattle.dromajo.specs.declared.status.Status.{Status}
 use Rattle.dromajo.specs.declared.status.Status.TheVariants.{Usage}
 use Rattle.dromajo.specs.declared.work.Finished.{Finished}
 use Rattle.dromajo.specs.Classes.{Class, Refused, Ended, Failed, Unreported, Starved, Never, class_of, settles, stop_status}
-use Rattle.dromajo.specs.Jobs.{Begun, IsBegunOutcome, IsOutcome, IsWorkOutcome, Outcome, begun, ended}
+use Rattle.dromajo.specs.Jobs.{Begun, IsBegunOutcome, IsOutcome, IsWorkOutcome, Outcome, after_acts, begun, ended}
 use Rattle.dromajo.specs.Report.{report_line}
 use Rattle.dromajo.specs.TopCall.{JobEnds, JobLeaves, JobStops, leaves_by}
-use Rattle.dromajo.specs.Works.{IsUnbegun, WorkEnds, WorkStops, unbegun_by}
+use Rattle.dromajo.specs.Works.{IsUnbegun, WorkEnds, WorkStops, begun_with, unbegun_by}
 
 -- ---- what is told
 
@@ -55,24 +55,50 @@ leaves_stopped stop.NoMemory job held input line a b stops = inr stops
 
 -- ---- the work of a machine that was begun
 
-begun_outcome : (job : Job) (held : Held) (input : List ℕ) (m : MachineState) (outcome : Outcome) → begun held job.begin ≡ Ok (record { machine = m; acts = [] }) → IsWorkOutcome job.work [] m input outcome → IsOutcome (Some job) held input outcome
-begun_outcome job held input m outcome is work = subst (λ (b : Result Begun Status). IsBegunOutcome job.work input b outcome) (sym is) work
+begun_outcome : (job : Job) (held : Held) (input : List ℕ) (b : Begun) (of_work : Outcome) → begun held job.begin ≡ Ok b → IsWorkOutcome job.work b.machine input of_work → IsOutcome (Some job) held input (after_acts b.acts of_work)
+begun_outcome job held input b of_work is work =
+    subst (λ (r : Result Begun Status). IsBegunOutcome job.work input r (after_acts b.acts of_work)) (sym is) (of_work, work, refl)
 
-pub job_ends : (job : Job) (held : Held) (input : List ℕ) (m : MachineState) (last : Finished) (a b : World) → begun held job.begin ≡ Ok (record { machine = m; acts = [] }) → WorkEnds job.work m last input 0 a b → JobEnds (Some job) held input last.status (report_line last.status last.turns last.taken) a b
-job_ends job held input m last a b is ends = record {
-  outcome = ends.outcome;
-  is = begun_outcome job held input m ends.outcome is ends.is;
-  status_is = ends.status_is;
-  line_is = ends.line_is;
-  did = ends.did;
-}
+-- a work may come to some outcome
+pub some_work : (work : Work) (m : MachineState) (input : List ℕ) → (outcome : Outcome) × IsWorkOutcome work m input outcome
+some_work (Turns turns logs) m input = (_, refl)
 
-pub job_stops : (why : Stop) (job : Job) (held : Held) (input : List ℕ) (m : MachineState) (a b : World) → begun held job.begin ≡ Ok (record { machine = m; acts = [] }) → WorkStops why job.work m input 0 a b → JobStops why (Some job) held input a b
-job_stops why job held input m a b is stops = record {
-  outcome = stops.outcome;
-  is = begun_outcome job held input m stops.outcome is stops.is;
-  cut = stops.cut;
-}
+-- the machine took up its run, and its work ended
+pub job_ends : (job : Job) (held : Held) (input : List ℕ) (m : MachineView) (last : Finished) (feed : Feed) (a b c : World) → begun held job.begin ≡ Ok (begun_with m)
+    → HasResumed input m.console m.machine.taken feed a b → OverInput m.machine feed b (λ bytes from. WorkEnds job.work m.machine last bytes from b c)
+    → JobEnds (Some job) held input last.status (report_line last.status last.turns last.taken) a c
+job_ends job held input m last feed a b c is resumed ends =
+    let worked = ends input (read (resume_acts m.console m.machine.taken) 0) resumed.fed in
+    record {
+      outcome = after_acts (resume_acts m.console m.machine.taken) worked.outcome;
+      is = begun_outcome job held input (begun_with m) worked.outcome is worked.is;
+      status_is = worked.status_is;
+      line_is = worked.line_is;
+      did = did_both resumed.did worked.did;
+    }
+
+-- or its work was cut
+pub job_stops : (why : Stop) (job : Job) (held : Held) (input : List ℕ) (m : MachineView) (feed : Feed) (a b c : World) → begun held job.begin ≡ Ok (begun_with m)
+    → HasResumed input m.console m.machine.taken feed a b → OverInput m.machine feed b (λ bytes from. WorkStops why job.work m.machine bytes from b c)
+    → JobStops why (Some job) held input a c
+job_stops why job held input m feed a b c is resumed stops =
+    let worked = stops input (read (resume_acts m.console m.machine.taken) 0) resumed.fed in
+    record {
+      outcome = after_acts (resume_acts m.console m.machine.taken) worked.outcome;
+      is = begun_outcome job held input (begun_with m) worked.outcome is worked.is;
+      cut = did_cut_later resumed.did worked.cut;
+    }
+
+-- or it was cut before its work
+pub resume_stops : (why : Stop) (job : Job) (held : Held) (input : List ℕ) (m : MachineView) (a b : World) → begun held job.begin ≡ Ok (begun_with m)
+    → DidCut why input 0 (resume_acts m.console m.machine.taken) a b → JobStops why (Some job) held input a b
+resume_stops why job held input m a b is cut =
+    let some = some_work job.work m.machine input in
+    record {
+      outcome = after_acts (resume_acts m.console m.machine.taken) some.0;
+      is = begun_outcome job held input (begun_with m) some.0 is some.1;
+      cut = did_cut_sooner some.0.acts cut;
+    }
 
 -- ---- other worlds that tell the same
 
@@ -119,12 +145,6 @@ pub unbegun_leaves : (job : Job) (held : Held) (input : List ℕ) (status : Stat
     → IsUnbegun status (IfSome told (λ files. begun files job.begin ≡ Err status)) reads reads' → Did input 0 [] a b → leaves_by (class_of status) (Some job) held input status (report_line status 0 0) a b
 unbegun_leaves job held input status told reads reads' a b is unbegun did = unbegun_by_class (class_of status) job held input status told reads reads' a b is unbegun.why did
 
--- ---- the first byte of an input
-
-pub fed_first : (input : List ℕ) (taken : ℕ) (feed : Feed) (left : Option (List ℕ)) → taken ≡ 0 → left ≡ Some input → IsFedFrom input 0 0 feed (Some input) → IsFedFrom input taken 0 feed left
-fed_first input taken feed left none is fed =
-    subst (λ (n : ℕ). IsFedFrom input n 0 feed left) (sym none) (subst (λ (l : Option (List ℕ)). IsFedFrom input 0 0 feed l) (sym is) fed)
-
 -- ---- what is left of a call
 
 pub over_two : (h : Option Held) (l : Option (List ℕ)) (Says : Held → List ℕ → Type 0) → ((held : Held) (input : List ℕ) → h ≡ Some held → l ≡ Some input → Says held input) → IfSome h (λ held. IfSome l (λ input. Says held input))
@@ -162,27 +182,47 @@ unbegun_job job status s turns taken reads reads' a b is unmade untaken told lef
     early (Some job) held input status s turns taken a b is unmade untaken
     (unbegun_leaves job held input status a.held reads reads' a b h unbegun (did_nothing input a b l (held_same a.held b.held held h told) left written)))
 
--- its work ended: `x` and `y` are the worlds between which it was done
-pub ended_job : (job : Job) (m : MachineState) (finished : Finished) (feed : Feed) (a x y b : World)
-    → IfSome a.held (λ files. begun files job.begin ≡ Ok (record { machine = m; acts = [] })) → m.taken ≡ 0 → ((bytes : List ℕ) → IsFedFrom bytes 0 0 feed (Some bytes))
-    → Told a.held x.held (λ h h'. h' ≡ h) → x.left ≡ a.left → x.written ≡ a.written → y.held ≡ b.held → y.left ≡ b.left → y.written ≡ b.written
-    → class_of finished.status ≡ Ended → OverInput m feed x (λ input from. WorkEnds job.work m finished input from x y)
+-- its work ended: `x` and `z` are the worlds between which it was done, and in `y` it took up its run
+pub ended_job : (job : Job) (m : MachineView) (finished : Finished) (feed : Feed) (a x y z b : World)
+    → IfSome a.held (λ files. begun files job.begin ≡ Ok (begun_with m))
+    → Told a.held x.held (λ h h'. h' ≡ h) → x.left ≡ a.left → x.written ≡ a.written → z.held ≡ b.held → z.left ≡ b.left → z.written ≡ b.written
+    → ((input : List ℕ) → x.left ≡ Some input → HasResumed input m.console m.machine.taken feed x y)
+    → class_of finished.status ≡ Ended → OverInput m.machine feed y (λ input from. WorkEnds job.work m.machine finished input from y z)
     → JobLeaves (Some job) finished.status (report_line finished.status finished.turns finished.taken) a b
-ended_job job m finished feed a x y b began first fed told left written held' left' written' class ends =
+ended_job job m finished feed a x y z b began told left written held' left' written' resumed class ends =
     over_two a.held a.left (λ held input. leaves_by (class_of finished.status) (Some job) held input finished.status (report_line finished.status finished.turns finished.taken) a b) (λ held input h l.
     leaves_settled (class_of finished.status) (Some job) held input finished.status (report_line finished.status finished.turns finished.taken) a b (subst settles (sym class) tt)
-    (ends_apart (Some job) held input finished.status (report_line finished.status finished.turns finished.taken) x y a b (held_same a.held x.held held h told) written held' left' written'
-    (job_ends job held input m finished x y (told_some a.held held (λ files. begun files job.begin ≡ Ok (record { machine = m; acts = [] })) h began) (ends input 0 (fed_first input m.taken feed x.left first (left ∙ l) (fed input))))))
+    (ends_apart (Some job) held input finished.status (report_line finished.status finished.turns finished.taken) x z a b (held_same a.held x.held held h told) written held' left' written'
+    (job_ends job held input m finished feed x y z (told_some a.held held (λ files. begun files job.begin ≡ Ok (begun_with m)) h began) (resumed input (left ∙ l)) ends)))
 
--- its work was cut
-pub stopped_job : (why : Stop) (job : Job) (m : MachineState) (s : Status) (turns taken : ℕ) (feed : Feed) (a x y b : World)
-    → IfSome a.held (λ files. begun files job.begin ≡ Ok (record { machine = m; acts = [] })) → m.taken ≡ 0 → ((bytes : List ℕ) → IsFedFrom bytes 0 0 feed (Some bytes))
-    → Told a.held x.held (λ h h'. h' ≡ h) → x.left ≡ a.left → x.written ≡ a.written → y.held ≡ b.held → y.left ≡ b.left → y.written ≡ b.written
-    → s ≡ stop_status why → OverInput m feed x (λ input from. WorkStops why job.work m input from x y)
+-- a job that was cut, where `stops` says what it was to come to
+stopped : (why : Stop) (job : Job) (m : MachineView) (s : Status) (turns taken : ℕ) (a x z b : World)
+    → IfSome a.held (λ files. begun files job.begin ≡ Ok (begun_with m))
+    → Told a.held x.held (λ h h'. h' ≡ h) → x.left ≡ a.left → x.written ≡ a.written → z.held ≡ b.held → z.left ≡ b.left → z.written ≡ b.written
+    → s ≡ stop_status why → ((held : Held) (input : List ℕ) → begun held job.begin ≡ Ok (begun_with m) → x.left ≡ Some input → JobStops why (Some job) held input x z)
     → JobLeaves (Some job) s (report_line s turns taken) a b
-stopped_job why job m s turns taken feed a x y b began first fed told left written held' left' written' is stops =
+stopped why job m s turns taken a x z b began told left written held' left' written' is stops =
     over_two a.held a.left (λ held input. leaves_by (class_of s) (Some job) held input s (report_line s turns taken) a b) (λ held input h l.
     subst (λ (z : Status). leaves_by (class_of z) (Some job) held input z (report_line s turns taken) a b) (sym is)
     (leaves_stopped why (Some job) held input (report_line s turns taken) a b
-    (stops_apart why (Some job) held input x y a b (held_same a.held x.held held h told) written held' left' written'
-    (job_stops why job held input m x y (told_some a.held held (λ files. begun files job.begin ≡ Ok (record { machine = m; acts = [] })) h began) (stops input 0 (fed_first input m.taken feed x.left first (left ∙ l) (fed input)))))))
+    (stops_apart why (Some job) held input x z a b (held_same a.held x.held held h told) written held' left' written'
+    (stops held input (told_some a.held held (λ files. begun files job.begin ≡ Ok (begun_with m)) h began) (left ∙ l)))))
+
+-- its work was cut
+pub stopped_job : (why : Stop) (job : Job) (m : MachineView) (s : Status) (turns taken : ℕ) (feed : Feed) (a x y z b : World)
+    → IfSome a.held (λ files. begun files job.begin ≡ Ok (begun_with m))
+    → Told a.held x.held (λ h h'. h' ≡ h) → x.left ≡ a.left → x.written ≡ a.written → z.held ≡ b.held → z.left ≡ b.left → z.written ≡ b.written
+    → ((input : List ℕ) → x.left ≡ Some input → HasResumed input m.console m.machine.taken feed x y)
+    → s ≡ stop_status why → OverInput m.machine feed y (λ input from. WorkStops why job.work m.machine input from y z)
+    → JobLeaves (Some job) s (report_line s turns taken) a b
+stopped_job why job m s turns taken feed a x y z b began told left written held' left' written' resumed is stops =
+    stopped why job m s turns taken a x z b began told left written held' left' written' is (λ held input has l. job_stops why job held input m feed x y z has (resumed input l) stops)
+
+-- it was cut before its work
+pub unresumed_job : (why : Stop) (job : Job) (m : MachineView) (s : Status) (turns taken : ℕ) (a x y b : World)
+    → IfSome a.held (λ files. begun files job.begin ≡ Ok (begun_with m))
+    → Told a.held x.held (λ h h'. h' ≡ h) → x.left ≡ a.left → x.written ≡ a.written → y.held ≡ b.held → y.left ≡ b.left → y.written ≡ b.written
+    → s ≡ stop_status why → ((input : List ℕ) → x.left ≡ Some input → DidCut why input 0 (resume_acts m.console m.machine.taken) x y)
+    → JobLeaves (Some job) s (report_line s turns taken) a b
+unresumed_job why job m s turns taken a x y b began told left written held' left' written' is cut =
+    stopped why job m s turns taken a x y b began told left written held' left' written' is (λ held input has l. resume_stops why job held input m x y has (cut input l))

@@ -3,11 +3,13 @@
 use Rattle.std.specs.Prelude.{◌≡◌, ◌⊎◌, ⊤}
 use Rattle.machine_start.specs.declared.fault.StartFault.{StartFault}
 use Rattle.machine_start.specs.declared.fault.StartFault.TheVariants as start
+use Rattle.image_saver.specs.declared.fault.LoadFault.{LoadFault}
+use Rattle.image_saver.specs.declared.fault.LoadFault.TheVariants as load
 use Rattle.outside_acts.specs.declared.Stop.{Stop}
 use Rattle.outside_acts.specs.declared.Stop.TheVariants as stop
 use Rattle.outside_acts.specs.World.{Counted, Reading, Writing, TheInput, Console, Counts, NonePassedOver, OnlyRose}
 use Rattle.dromajo.specs.declared.status.Status.{Status}
-use Rattle.dromajo.specs.declared.status.Status.TheVariants.{Done, Usage, BadConfig, BadElf, ReadFault, WriteFault, NoMemory, GuestEnded, BadHostWord}
+use Rattle.dromajo.specs.declared.status.Status.TheVariants.{Done, Usage, BadConfig, BadElf, BadCheckpoint, BootFault, ReadFault, WriteFault, NoMemory, GuestEnded, BadHostWord}
 use Rattle.dromajo.specs.declared.status.Which.{Which}
 use Rattle.dromajo.specs.declared.status.Which.TheVariants.{Files, Input, Out, Report}
 
@@ -41,6 +43,8 @@ class_of Done = Ended
 class_of Usage = Refused
 class_of (BadConfig fault) = Refused
 class_of (BadElf fault) = Refused
+class_of (BadCheckpoint fault) = Refused
+class_of (BootFault fault) = Refused
 class_of (ReadFault which) = read_class which
 class_of (WriteFault which) = write_class which
 class_of NoMemory = Starved
@@ -109,6 +113,12 @@ start_status (start.Config fault) = BadConfig fault
 start_status (start.Elf fault) = BadElf fault
 start_status start.Unread = ReadFault Files
 start_status start.NoMemory = NoMemory
+
+-- the status of a checkpoint that could not be loaded
+abbrev pub load_status : LoadFault → Status
+load_status load.Failed = ReadFault Files
+load_status load.NoMemory = NoMemory
+load_status fault = BadCheckpoint fault
 
 -- the status of a stop
 abbrev pub stop_status : Stop → Status

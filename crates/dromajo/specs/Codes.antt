@@ -1,13 +1,15 @@
 -- The number of each status, with which the program ends. The statuses and their numbers are this project's own.
 use Rattle.std.specs.Prelude.{ℕ}
 use Rattle.dromajo.specs.declared.status.Status.{Status}
-use Rattle.dromajo.specs.declared.status.Status.TheVariants.{Done, Usage, BadConfig, BadElf, ReadFault, WriteFault, NoMemory, GuestEnded, BadHostWord}
+use Rattle.dromajo.specs.declared.status.Status.TheVariants.{Done, Usage, BadConfig, BadElf, BadCheckpoint, BootFault, ReadFault, WriteFault, NoMemory, GuestEnded, BadHostWord}
 
 abbrev pub code_of : Status → ℕ
 code_of Done = 0
 code_of Usage = 2
 code_of (BadConfig fault) = 3
 code_of (BadElf fault) = 4
+code_of (BadCheckpoint fault) = 5
+code_of (BootFault fault) = 6
 code_of (ReadFault which) = 7
 code_of (WriteFault which) = 8
 code_of NoMemory = 9

@@ -7,17 +7,25 @@ use Rattle.sim_config.specs.declared.fault.ConfigFault.{ConfigFault}
 use Rattle.sim_config.specs.declared.fault.ConfigFault.TheVariants as config_fault
 use Rattle.hart_turns.specs.declared.machine.TurnEnd.{TurnEnd}
 use Rattle.hart_turns.specs.declared.machine.TurnEnd.TheVariants as turn_end
-use Rattle.hart_turns.specs.Machine.{MachineState, reset_machine}
+use Rattle.hart_turns.specs.declared.booting.BootFault.{BootFault}
+use Rattle.hart_turns.specs.Boot.{Booting, booted, machine_at}
+use Rattle.hart_turns.specs.Machine.{MachineState, debug_machine, reset_machine}
+use Rattle.image_saver.specs.declared.fault.LoadFault.{LoadFault}
+use Rattle.image_saver.specs.Checkpoint.{Checkpoint, checkpoint_of}
+use Rattle.image_saver.specs.Quiet.{HoldsCheckpoint}
+use Rattle.image_saver.specs.Refusal.{IsOfFiles}
 use Rattle.machine_start.specs.declared.start.Start.{Start as StartValue}
 use Rattle.machine_start.specs.declared.fault.StartFault.{StartFault}
 use Rattle.machine_start.specs.Quiet.{HoldsConfig}
 use Rattle.machine_start.specs.Start.{start_of_config, start_from_image}
-use Rattle.job_words.specs.Job.{Begin, FromConfig, FromImage, Job, Logs, Turns, Work}
+use Rattle.job_words.specs.Job.{Begin, FromCheckpoint, FromConfig, FromImage, Job, Logs, Turns, Work}
 use Rattle.turn_runs.specs.Reaching.{log_uses}
+use Rattle.turn_runs.specs.Resuming.{resume_acts}
 use Rattle.turn_runs.specs.Run.{Ran, run}
 use Rattle.dromajo.specs.declared.status.Status.{Status}
-use Rattle.dromajo.specs.declared.status.Status.TheVariants.{Done, Usage, BadConfig, GuestEnded, BadHostWord}
-use Rattle.dromajo.specs.Classes.{start_status}
+use Rattle.dromajo.specs.declared.status.Status.TheVariants.{Done, Usage, BadConfig, BadCheckpoint, GuestEnded, BadHostWord}
+use Rattle.dromajo.specs.declared.status.Status.TheVariants as status
+use Rattle.dromajo.specs.Classes.{load_status, start_status}
 use Rattle.dromajo.specs.Report.{report_line}
 
 -- ---- where a machine begins
@@ -35,13 +43,25 @@ abbrev pub begun_at : Result StartValue StartFault → Result Begun Status
 begun_at (Ok start) = Ok (record { machine = machine_of start; acts = [] })
 begun_at (Err fault) = Err (start_status fault)
 
--- what a machine begins with, over what the files hold at the call: no act of a beginning writes a file
-abbrev pub start_of : Held → Begin → Result StartValue StartFault
-start_of held (FromConfig name) = start_of_config held name
-start_of held (FromImage name) = start_from_image held name
+-- the machine of a checkpoint before its boot: it is in debug mode, and executes the ROM
+abbrev pub debug_of : Checkpoint → MachineState
+debug_of c = debug_machine c.meta.shape c.meta.taken c.ram c.rom
 
+-- after its boot, what that sent goes to the console, and the input that was taken is passed over; a boot that failed
+-- is a refusal
+abbrev pub begun_by_boot : MachineState → Booting → Option BootFault → Result Begun Status
+begun_by_boot m left None = Ok (record { machine = machine_at m left; acts = resume_acts left.console m.taken })
+begun_by_boot m left (Some fault) = Err (status.BootFault fault)
+
+abbrev pub restored : Result Checkpoint LoadFault → Result Begun Status
+restored (Ok c) = begun_by_boot (debug_of c) (booted (debug_of c)).left (booted (debug_of c)).fault
+restored (Err fault) = Err (load_status fault)
+
+-- what a machine begins with, over what the files hold at the call: no act of a beginning writes a file
 abbrev pub begun : Held → Begin → Result Begun Status
-begun held begin = begun_at (start_of held begin)
+begun held (FromConfig name) = begun_at (start_of_config held name)
+begun held (FromImage name) = begun_at (start_from_image held name)
+begun held (FromCheckpoint name) = restored (checkpoint_of held name)
 
 -- ---- the work, and how it ends
 
@@ -73,14 +93,18 @@ start_named (Some name) = Start name ∷ []
 abbrev pub start_acts : Logs → List Act
 start_acts logs = start_named logs.trace
 
--- what a work on a machine may come to, where these acts were done before
-abbrev pub IsWorkOutcome : Work → List Act → MachineState → List ℕ → Outcome → Type 0
-IsWorkOutcome (Turns turns logs) acts m input outcome = outcome ≡ ran_outcome (acts ++ start_acts logs) (run logs input m turns)
+-- what a work on a machine may come to
+abbrev pub IsWorkOutcome : Work → MachineState → List ℕ → Outcome → Type 0
+IsWorkOutcome (Turns turns logs) m input outcome = outcome ≡ ran_outcome (start_acts logs) (run logs input m turns)
+
+-- the acts of a beginning come before those of the work
+abbrev pub after_acts : List Act → Outcome → Outcome
+after_acts acts outcome = record outcome { acts = acts ++ outcome.acts }
 
 -- a beginning that is refused does nothing
 abbrev pub IsBegunOutcome : Work → List ℕ → Result Begun Status → Outcome → Type 0
 IsBegunOutcome work input (Err status) outcome = outcome ≡ ended status 0 0 []
-IsBegunOutcome work input (Ok b) outcome = IsWorkOutcome work b.acts b.machine input outcome
+IsBegunOutcome work input (Ok b) outcome = (of_work : Outcome) × IsWorkOutcome work b.machine input of_work × (outcome ≡ after_acts b.acts of_work)
 
 -- what the job of the words may come to, over what the files hold and the whole input; none is refused
 abbrev pub IsOutcome : Option Job → Held → List ℕ → Outcome → Type 0
@@ -102,6 +126,7 @@ refusal_of (Some job) held = refusal_in (begun held job.begin)
 abbrev pub HoldsBegin : Option Held → Begin → Type 0
 HoldsBegin told (FromConfig name) = HoldsConfig told name
 HoldsBegin told (FromImage name) = IsHeld told name
+HoldsBegin told (FromCheckpoint name) = HoldsCheckpoint told name
 
 -- every file that a job reads is held
 abbrev pub HoldsJob : Option Held → Option Job → Type 0
@@ -117,8 +142,9 @@ abbrev pub job_uses : Option Job → Counted → Type 0
 job_uses None counted = ⊥
 job_uses (Some job) counted = (counted ≡ Reading) ⊎ work_uses job.work counted
 
--- what a status needs beside its class: Usage, that the words name no job, and BadConfig, that it carries no want of
--- memory
+-- what a status needs beside its class: Usage, that the words name no job, BadConfig, that it carries no want of
+-- memory, and BadCheckpoint, that it carries a fault of the files
 pub record Fits (status : Status) (job : Option Job) : Type 0 where
   pub usage : status ≡ Usage → job ≡ None
   pub config : (fault : ConfigFault) → status ≡ BadConfig fault → fault ≢ config_fault.NoMemory
+  pub checkpoint : (fault : LoadFault) → status ≡ BadCheckpoint fault → IsOfFiles fault

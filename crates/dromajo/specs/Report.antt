@@ -10,8 +10,15 @@ use Rattle.elf_load.specs.declared.fault.ElfFault.{ElfFault}
 use Rattle.elf_load.specs.declared.fault.ElfFault.TheVariants.{NotElf, WrongKind, Truncated, OutsideRam, Shrinks, TooLong}
 use Rattle.elf_load.specs.declared.fault.ElfField.{ElfField}
 use Rattle.elf_load.specs.declared.fault.ElfField.TheVariants.{Class, Order, Type2, Machine, Phentsize, Entry, Shentsize, Link, Tohost}
+use Rattle.hart_turns.specs.declared.booting.BootFault.{BootFault}
+use Rattle.hart_turns.specs.declared.booting.BootFault.TheVariants.{Trap, Long}
+use Rattle.image_saver.specs.declared.fault.LoadFault.{LoadFault}
+use Rattle.image_saver.specs.declared.fault.LoadFault.TheVariants as load
+use Rattle.image_saver.specs.declared.fault.Part.{Part}
+use Rattle.image_saver.specs.declared.fault.Part.TheVariants.{Mainram, Bootram}
 use Rattle.dromajo.specs.declared.status.Status.{Status}
-use Rattle.dromajo.specs.declared.status.Status.TheVariants.{Done, Usage, BadConfig, BadElf, ReadFault, WriteFault, NoMemory, GuestEnded, BadHostWord}
+use Rattle.dromajo.specs.declared.status.Status.TheVariants.{Done, Usage, BadConfig, BadElf, BadCheckpoint, ReadFault, WriteFault, NoMemory, GuestEnded, BadHostWord}
+use Rattle.dromajo.specs.declared.status.Status.TheVariants as status
 use Rattle.dromajo.specs.declared.status.Which.{Which}
 use Rattle.dromajo.specs.declared.status.Which.TheVariants.{Files, Input, Out, Report}
 
@@ -44,15 +51,18 @@ key_name Taken = codes "taken"
 key_name key.Tohost = codes "tohost"
 key_name Version = codes "version"
 
--- an unknown key is printed with its bytes as they are
+-- the fault of a configuration or of a meta text. An unknown key is printed with its bytes as they are
+abbrev pub text_fault : ConfigFault → List ℕ
+text_fault config_fault.NotJson = codes "not-json"
+text_fault (config_fault.Missing key) = codes "missing " ++ key_name key
+text_fault (config_fault.Unknown name) = codes "unknown " ++ name
+text_fault (config_fault.WrongKind key) = codes "wrong-kind " ++ key_name key
+text_fault (config_fault.OutOfRange key) = codes "out-of-range " ++ key_name key
+text_fault (config_fault.TooLong len) = codes "too-long " ++ decimal len
+text_fault config_fault.NoMemory = codes "no memory"
+
 abbrev pub config_text : ConfigFault → List ℕ
-config_text config_fault.NotJson = codes "config not-json"
-config_text (config_fault.Missing key) = codes "config missing " ++ key_name key
-config_text (config_fault.Unknown name) = codes "config unknown " ++ name
-config_text (config_fault.WrongKind key) = codes "config wrong-kind " ++ key_name key
-config_text (config_fault.OutOfRange key) = codes "config out-of-range " ++ key_name key
-config_text (config_fault.TooLong len) = codes "config too-long " ++ decimal len
-config_text config_fault.NoMemory = codes "no memory"
+config_text fault = codes "config " ++ text_fault fault
 
 abbrev pub elf_text : ElfFault → List ℕ
 elf_text NotElf = codes "elf not-elf"
@@ -62,12 +72,31 @@ elf_text (OutsideRam segment) = codes "elf outside-ram " ++ decimal segment
 elf_text (Shrinks segment) = codes "elf shrinks " ++ decimal segment
 elf_text (TooLong len) = codes "elf too-long " ++ decimal len
 
+abbrev pub part_name : Part → List ℕ
+part_name Mainram = codes "mainram"
+part_name Bootram = codes "bootram"
+
+-- why a checkpoint is refused; the other two faults have statuses of their own
+abbrev pub checkpoint_text : LoadFault → List ℕ
+checkpoint_text (load.Meta fault) = codes "checkpoint " ++ text_fault fault
+checkpoint_text (load.Length part want have) =
+    codes "checkpoint length " ++ (part_name part ++ (codes " want=" ++ (decimal want ++ (codes " have=" ++ decimal have))))
+checkpoint_text load.Failed = codes "read fault files"
+checkpoint_text load.NoMemory = codes "no memory"
+
+-- how a boot failed
+abbrev pub boot_text : BootFault → List ℕ
+boot_text (Trap hart pc cause) = codes "boot trap hart=" ++ (decimal hart ++ (codes " pc=" ++ (hex 16 pc ++ (codes " cause=" ++ decimal cause))))
+boot_text (Long hart) = codes "boot long hart=" ++ decimal hart
+
 -- the text of a status; that of a job that was done has the turns made and the input bytes taken
 abbrev pub status_text : Status → ℕ → ℕ → List ℕ
 status_text Done turns taken = codes "done turns=" ++ (decimal turns ++ (codes " taken=" ++ decimal taken))
 status_text Usage turns taken = codes "usage: dromajo command --name value"
 status_text (BadConfig fault) turns taken = config_text fault
 status_text (BadElf fault) turns taken = elf_text fault
+status_text (BadCheckpoint fault) turns taken = checkpoint_text fault
+status_text (status.BootFault fault) turns taken = boot_text fault
 status_text (ReadFault which) turns taken = codes "read fault " ++ object_name which
 status_text (WriteFault which) turns taken = codes "write fault " ++ object_name which
 status_text NoMemory turns taken = codes "no memory"

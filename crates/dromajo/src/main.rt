@@ -10,11 +10,16 @@ mod example_tests;
 #[cfg(test)]
 mod fault_tests;
 #[cfg(test)]
+mod load_tests;
+#[cfg(test)]
 mod program_tests;
+mod refusals;
 mod report;
 #[cfg(test)]
 mod run_tests;
 mod status;
+#[cfg(test)]
+mod test_files;
 #[cfg(test)]
 mod test_support;
 mod top;

@@ -1,149 +1,70 @@
-// Loading over files in memory. The configurations, programs and reports are those of the program's
-// documents; the ELF file was laid out by hand (System V ABI, 4 and 5).
+//! Loading over files in memory. The configurations, programs and reports are those of the program's
+//! documents; the ELF file was laid out by hand (System V ABI, 4 and 5).
 
-use crate::report::report_line;
-use crate::status::{Status, start_status};
-use crate::test_support::{NONE, Put, elf, same};
+use crate::test_files::Content::{Elf, Image, Text};
+use crate::test_files::{File, NO_CHANGE, Put};
+use crate::test_support::{Call, NOTHING, expect_call, files_before, same, streams_after};
 use guest_ram::BASE;
-use job_words::Begin;
-use machine_start::{Start, config_start, image_start};
-use outside_io::{Files, MemFiles, OutFault};
-use sim_config::Shape;
-use std::alloc::Global;
+use machine_start::{Start, StartFault, config_start, image_start};
+use outside_io::{Files, OutFault};
 use std::process::Abort;
-
-// A configuration `c` of this text and the ELF file `p.elf`.
-fn files_of(alloc: Global, config: &[u8], program: &[u8]) -> Result<MemFiles, OutFault> {
-    let mut files = MemFiles::new(alloc);
-    files.put("c", config)?;
-    files.put("p.elf", program)?;
-    Ok(files)
-}
-
-// What a machine begins with, or the status of its refusal.
-fn start_of<F: Files>(alloc: Global, files: &mut F, begin: Begin<'_>) -> Result<Start, Status> {
-    let start = match begin {
-        Begin::Config(name) => config_start(alloc, files, name),
-        Begin::Image(name) => image_start(alloc, files, name),
-    };
-    match start {
-        Ok(start) => Ok(start),
-        Err(fault) => Err(start_status(fault)),
-    }
-}
-
-// The line that reports the refusal of a start.
-fn refusal(alloc: Global, start: Result<Start, Status>) -> Result<String, OutFault> {
-    let status = match start {
-        Ok(_) => Status::Done,
-        Err(status) => status,
-    };
-    match report_line(alloc, &status, 0, 0) {
-        Ok(line) => Ok(line),
-        Err(_) => Err(OutFault::NoMemory),
-    }
-}
+use std::test::Fail;
 
 const LARGE: &str = "{\"harts\":1,\"ram\":67108864,\"slice\":64,\"program\":\"p.elf\"}";
 
 const SMALL: &str = "{\"harts\":1,\"ram\":65536,\"slice\":64,\"program\":\"p.elf\"}";
 
-// Configurations, a change of the ELF file, and harts, RAM, slice and window of the start.
-static STARTS: [(&str, Put, Shape); 6] = [
-    (
-        LARGE,
-        NONE,
-        Shape {
-            harts: 1,
-            ram: 67_108_864,
-            slice: 64,
-            tohost: 0x8000_1000,
-        },
-    ),
+const EIGHT_HARTS: &str = "{\"harts\":8,\"ram\":65536,\"slice\":1024,\"program\":\"p.elf\"}";
+
+// Harts, RAM, slice and window.
+type Numbers = (u8, u64, u16, u64);
+
+// Configurations, a change of the ELF file, and the numbers of the start.
+static STARTS: [(&str, Put, Numbers); 6] = [
+    (LARGE, NO_CHANGE, (1, 67_108_864, 64, 0x8000_1000)),
     // the configuration's window goes before the symbol, and its symbols are not looked at then
     (
         "{\"harts\":1,\"ram\":65536,\"slice\":5,\"program\":\"p.elf\",\"tohost\":2147487752}",
         (58, 2, 63),
-        Shape {
-            harts: 1,
-            ram: 65_536,
-            slice: 5,
-            tohost: 0x8000_1008,
-        },
+        (1, 65_536, 5, 0x8000_1008),
     ),
     (
         "{\"harts\":1,\"ram\":65536,\"slice\":5,\"program\":\"p.elf\",\"tohost\":0}",
-        NONE,
-        Shape {
-            harts: 1,
-            ram: 65_536,
-            slice: 5,
-            tohost: 0,
-        },
+        NO_CHANGE,
+        (1, 65_536, 5, 0),
     ),
     // the last word of memory
     (
         "{\"harts\":2,\"ram\":65536,\"slice\":1,\"program\":\"p.elf\"}",
         (176, 8, 0x8000_fff8),
-        Shape {
-            harts: 2,
-            ram: 65_536,
-            slice: 1,
-            tohost: 0x8000_fff8,
-        },
+        (2, 65_536, 1, 0x8000_fff8),
     ),
     // no such symbol, and no sections
-    (
-        "{\"harts\":8,\"ram\":65536,\"slice\":1024,\"program\":\"p.elf\"}",
-        (137, 1, 0x54),
-        Shape {
-            harts: 8,
-            ram: 65_536,
-            slice: 1024,
-            tohost: 0,
-        },
-    ),
-    (
-        "{\"harts\":8,\"ram\":65536,\"slice\":1024,\"program\":\"p.elf\"}",
-        (60, 2, 0),
-        Shape {
-            harts: 8,
-            ram: 65_536,
-            slice: 1024,
-            tohost: 0,
-        },
-    ),
+    (EIGHT_HARTS, (137, 1, 0x54), (8, 65_536, 1024, 0)),
+    (EIGHT_HARTS, (60, 2, 0), (8, 65_536, 1024, 0)),
 ];
 
-// The memory of a start has these bytes at its front, and its length.
-fn expect_front(rt: &impl Abort, start: &Start, front: &[u8], len: u64) {
-    same(rt, &start.ram.len(), &len, "bytes of", "the memory");
+// A start has these numbers, its memory these bytes at its front, and it is entered there.
+fn expect_numbers(rt: &impl Abort, start: &Start, numbers: Numbers, front: &[u8], note: &str) {
+    let shape = start.shape;
+    let got = (shape.harts, shape.ram, shape.slice, shape.tohost);
+    same(rt, &got, &numbers, "the numbers of", note);
+    same(rt, &start.ram.len(), &numbers.1, "the memory of", note);
+    same(rt, &start.entry, &BASE, "the entry of", note);
     assert!(rt; start.ram.has(BASE, 24));
-    same(
-        rt,
-        &start.ram.part(BASE, 24),
-        &front,
-        "front of",
-        "the memory",
-    );
+    same(rt, &start.ram.part(BASE, 24), &front, "the front of", note);
 }
 
-// The files give this start.
+// There is a start, which has these numbers.
 fn expect_start(
     rt: &impl Abort,
-    alloc: Global,
-    files: &mut MemFiles,
-    begin: Begin<'_>,
-    shape: Shape,
+    start: &Result<Start, StartFault>,
+    numbers: Numbers,
     front: &[u8],
 ) {
-    match start_of(alloc, files, begin) {
-        Ok(start) => {
-            same(rt, &start.shape, &shape, "shape of", "the start");
-            same(rt, &start.entry, &0x8000_0000, "entry of", "the start");
-            expect_front(rt, &start, front, shape.ram);
-        }
-        Err(status) => same(rt, &status, &Status::Done, "status of", "a start"),
+    match start {
+        Ok(start) => expect_numbers(rt, start, numbers, front, "the start"),
+        Err(_) => panic!(rt; "no start of {numbers:?}"),
     }
 }
 
@@ -153,99 +74,128 @@ static FRONT: [u8; 24] = [
     0, 0, 0, 0, 0,
 ];
 
-// The start of a configuration and the changed ELF file.
-fn expect_shape(
-    rt: &impl Abort,
-    alloc: Global,
-    config: &str,
-    change: Put,
-    shape: Shape,
-) -> Result<(), OutFault> {
-    let program = elf(rt, change);
-    let mut files = files_of(alloc, config.as_bytes(), &program)?;
-    expect_start(rt, alloc, &mut files, Begin::Config("c"), shape, &FRONT);
-    Ok(())
-}
-
 #[test]
-fn a_configuration_and_its_program_give_the_start(rt: HostRuntime) -> Result<(), OutFault> {
-    for &(config, change, shape) in &STARTS {
-        expect_shape(&rt, rt.alloc(), config, change, shape)?;
+fn a_configuration_and_its_program_give_the_start(rt: HostRuntime) -> Result<(), Fail> {
+    for &(config, change, numbers) in &STARTS {
+        let held = [("c", Text(config)), ("p.elf", Elf(change))];
+        let mut files = files_before(&rt, rt.alloc(), &held)?;
+        let start = config_start(rt.alloc(), &mut files, "c");
+        expect_start(&rt, &start, numbers, &FRONT);
     }
     Ok(())
 }
 
-// The files are refused with this line.
-fn expect_refusal(
-    rt: &impl Abort,
-    alloc: Global,
-    files: &mut MemFiles,
-    begin: Begin<'_>,
-    want: &str,
-) -> Result<(), OutFault> {
-    let start = start_of(alloc, files, begin);
-    let line = refusal(alloc, start)?;
-    same(rt, &line.as_str(), &want, "refusal for", want);
+// The first bytes of memory after the flat image was laid there.
+static IMAGE_FRONT: [u8; 24] = [
+    0x6f, 0, 0, 0, 0, 0, 0, 0, 0, 0, 0, 0, 0, 0, 0, 0, 0, 0, 0, 0, 0, 0, 0, 0,
+];
+
+#[test]
+fn a_flat_image_stands_at_the_front_of_memory(rt: HostRuntime) -> Result<(), Fail> {
+    let held = [("a.bin", Image(&[0x6f], 65_536))];
+    let mut files = files_before(&rt, rt.alloc(), &held)?;
+    let start = image_start(rt.alloc(), &mut files, "a.bin");
+    expect_start(&rt, &start, (1, 65_536, 16, 0), &IMAGE_FRONT);
     Ok(())
 }
 
-// Configurations that are refused, and how. There is no program that could be read.
-static CONFIGS: [(&str, &str); 12] = [
+// Calls that begin with the configuration `c`, and touch no more than the files that they read.
+const CONFIGURED: Call<'static> = Call {
+    line: "run --config c --turns 1000 --trace t",
+    input: "xy",
+    left: Some("xy"),
+    ..NOTHING
+};
+
+// Configurations that are refused, the status's number, and the report. There is no program that could be
+// read.
+static CONFIGS: [(&str, u8, &str); 16] = [
     (
         "{\"harts\":9,\"ram\":65536,\"slice\":1,\"program\":\"p\"}",
+        3,
         "config out-of-range harts\n",
     ),
     (
         "{\"harts\":1,\"ram\":65536,\"slice\":1,\"program\":\"p\",\"x\":0}",
+        3,
         "config unknown x\n",
     ),
     (
         "{\"harts\":1,\"ram\":65536,\"slice\":1,\"program\":\"p\",\"\":0}",
+        3,
         "config unknown \n",
     ),
     (
         "{\"harts\":1,\"ram\":65536,\"slice\":1,\"program\":\"p\",\"a\\nb\":0}",
+        3,
         "config unknown a\nb\n",
     ),
     (
         "{\"harts\":1,\"ram\":65537,\"slice\":1,\"program\":\"p\"}",
+        3,
         "config out-of-range ram\n",
     ),
-    ("[]", "config wrong-kind top\n"),
-    ("", "config not-json\n"),
+    ("[]", 3, "config wrong-kind top\n"),
+    ("", 3, "config not-json\n"),
     (
         "{\"harts\":1.0,\"ram\":65536,\"slice\":1,\"program\":\"p\"}",
+        3,
         "config wrong-kind harts\n",
     ),
     (
         "{\"harts\":1,\"ram\":67108864,\"program\":\"p.elf\"}",
+        3,
         "config missing slice\n",
     ),
     (
         "{\"harts\":1,\"ram\":67108864,\"slice\":\"1\",\"program\":\"p.elf\"}",
+        3,
         "config wrong-kind slice\n",
     ),
     (
         "{\"harts\":1,\"ram\":65536,\"slice\":1,\"program\":\"\"}",
+        3,
         "config out-of-range program\n",
     ),
     // a path that holds a zero byte is an ordinary name
     (
         "{\"harts\":1,\"ram\":65536,\"slice\":1,\"program\":\"\\u0000\"}",
+        7,
         "read fault files\n",
+    ),
+    (
+        "{\"harts\":9,\"ram\":65536,\"slice\":1,\"program\":\"p.elf\"}",
+        3,
+        "config out-of-range harts\n",
+    ),
+    (
+        "{\"harts\":1,\"ram\":65536,\"slice\":1,\"program\":\"p.elf\",\"x\":0}",
+        3,
+        "config unknown x\n",
+    ),
+    (
+        "{\"harts\":1,\"ram\":65537,\"slice\":1,\"program\":\"p.elf\"}",
+        3,
+        "config out-of-range ram\n",
+    ),
+    (
+        "{\"harts\":1.0,\"ram\":65536,\"slice\":1,\"program\":\"p.elf\"}",
+        3,
+        "config wrong-kind harts\n",
     ),
 ];
 
-fn expect_config(rt: &impl Abort, alloc: Global, config: &str, want: &str) -> Result<(), OutFault> {
-    let mut files = MemFiles::new(alloc);
-    files.put("c", config.as_bytes())?;
-    expect_refusal(rt, alloc, &mut files, Begin::Config("c"), want)
-}
-
 #[test]
-fn a_configuration_is_refused_before_its_program_is_read(rt: HostRuntime) -> Result<(), OutFault> {
-    for &(config, want) in &CONFIGS {
-        expect_config(&rt, rt.alloc(), config, want)?;
+fn a_configuration_is_refused_before_its_program_is_read(rt: HostRuntime) -> Result<(), Fail> {
+    for &(config, code, report) in &CONFIGS {
+        let files = [("c", Text(config))];
+        let call = Call {
+            files: &files,
+            code,
+            report,
+            ..CONFIGURED
+        };
+        expect_call(&rt, rt.alloc(), &call)?;
     }
     Ok(())
 }
@@ -275,126 +225,99 @@ static PROGRAMS: [(Put, &str); 21] = [
     ((176, 8, 0x8001_0000), "elf wrong-kind tohost\n"),
 ];
 
-fn expect_program(rt: &impl Abort, alloc: Global, change: Put, want: &str) -> Result<(), OutFault> {
-    let program = elf(rt, change);
-    let mut files = files_of(alloc, SMALL.as_bytes(), &program)?;
-    expect_refusal(rt, alloc, &mut files, Begin::Config("c"), want)
-}
-
 #[test]
-fn a_program_is_refused_by_its_first_fault(rt: HostRuntime) -> Result<(), OutFault> {
-    for &(change, want) in &PROGRAMS {
-        expect_program(&rt, rt.alloc(), change, want)?;
+fn a_program_is_refused_by_its_first_fault(rt: HostRuntime) -> Result<(), Fail> {
+    for &(change, report) in &PROGRAMS {
+        let files = [("c", Text(SMALL)), ("p.elf", Elf(change))];
+        let call = Call {
+            files: &files,
+            code: 4,
+            report,
+            ..CONFIGURED
+        };
+        expect_call(&rt, rt.alloc(), &call)?;
     }
     Ok(())
 }
 
-// A file of so many zeros.
-fn zeros(alloc: Global, len: usize) -> Result<Vec<u8>, OutFault> {
-    match vec![in alloc; 0u8; len] {
-        Ok(bytes) => Ok(bytes),
-        Err(_) => Err(OutFault::NoMemory),
-    }
-}
+// A configuration, its program, and an empty file.
+const READABLE: Call<'static> = Call {
+    files: &[
+        ("c", Text(SMALL)),
+        ("p.elf", Elf(NO_CHANGE)),
+        ("empty", Text("")),
+    ],
+    ..NOTHING
+};
 
-// The first bytes of memory after the flat image was laid there.
-static IMAGE_FRONT: [u8; 24] = [
-    0x6f, 0, 0, 0, 0, 0, 0, 0, 0, 0, 0, 0, 0, 0, 0, 0, 0, 0, 0, 0, 0, 0, 0, 0,
-];
+const UNREAD: &str = "read fault files\n";
 
-#[test]
-fn a_flat_image_stands_at_the_front_of_memory(rt: HostRuntime) -> Result<(), OutFault> {
-    let mut files = MemFiles::new(rt.alloc());
-    let mut image = zeros(rt.alloc(), 65_536)?;
-    assert!(rt; image.len() == 65_536);
-    image[0] = 0x6f;
-    files.put("a.bin", &image)?;
-    let shape = Shape {
-        harts: 1,
-        ram: 65_536,
-        slice: 16,
-        tohost: 0,
-    };
-    let begin = Begin::Image("a.bin");
-    expect_start(&rt, rt.alloc(), &mut files, begin, shape, &IMAGE_FRONT);
-    Ok(())
-}
+const NO_TURNS: &str = "done turns=0 taken=0\n";
 
-// The beginning, the name and length of a file of zeros, the call that fails, and the report.
-type TooLong = (Begin<'static>, &'static str, usize, u64, &'static str);
-
-// The name and length of a file of zeros, and the refusal although its reading would fail.
-static TOO_LONG: [TooLong; 3] = [
-    (Begin::Image("a"), "a", 65_537, 2, "elf outside-ram 0\n"),
-    (
-        Begin::Config("c"),
-        "c",
-        65_537,
-        2,
-        "config too-long 65537\n",
-    ),
-    (
-        Begin::Config("d"),
-        "p.elf",
-        67_108_865,
-        4,
-        "elf too-long 67108865\n",
-    ),
-];
-
-fn expect_too_long(rt: &impl Abort, alloc: Global, row: TooLong) -> Result<(), OutFault> {
-    let (begin, name, len, call, want) = row;
-    let mut files = MemFiles::new(alloc);
-    files.put("d", SMALL.as_bytes())?;
-    let bytes = zeros(alloc, len)?;
-    files.put(name, &bytes)?;
-    files.fail_at(call)?;
-    expect_refusal(rt, alloc, &mut files, begin, want)
-}
-
-#[test]
-fn nothing_is_read_of_a_file_that_is_too_long(rt: HostRuntime) -> Result<(), OutFault> {
-    for &row in &TOO_LONG {
-        expect_too_long(&rt, rt.alloc(), row)?;
-    }
-    Ok(())
-}
-
-// The source, the call of the files that fails, and the report.
-static FAILURES: [(Begin<'static>, u64, &str); 12] = [
-    (Begin::Config("c"), 1, "read fault files\n"),
-    (Begin::Config("c"), 2, "read fault files\n"),
-    (Begin::Config("c"), 3, "read fault files\n"),
-    (Begin::Config("c"), 4, "read fault files\n"),
-    (Begin::Config("c"), 5, "done turns=0 taken=0\n"),
-    (Begin::Image("p.elf"), 1, "read fault files\n"),
-    (Begin::Image("p.elf"), 2, "read fault files\n"),
-    (Begin::Image("p.elf"), 3, "done turns=0 taken=0\n"),
+// The words, the call of the files that fails, the status's number, and the report.
+static FAILURES: [(&str, u64, u8, &str); 12] = [
+    ("run --config c --turns 0", 1, 7, UNREAD),
+    ("run --config c --turns 0", 2, 7, UNREAD),
+    ("run --config c --turns 0", 3, 7, UNREAD),
+    ("run --config c --turns 0", 4, 7, UNREAD),
+    ("run --config c --turns 0", 5, 0, NO_TURNS),
+    ("run --image p.elf --turns 0", 1, 7, UNREAD),
+    ("run --image p.elf --turns 0", 2, 7, UNREAD),
+    ("run --image p.elf --turns 0", 3, 0, NO_TURNS),
     // no byte is missing of an empty file
-    (Begin::Image("empty"), 2, "done turns=0 taken=0\n"),
-    (Begin::Config("empty"), 2, "config not-json\n"),
-    (Begin::Image("none"), 9, "read fault files\n"),
-    (Begin::Config("none"), 9, "read fault files\n"),
+    ("run --image empty --turns 0", 2, 0, NO_TURNS),
+    ("run --config empty --turns 0", 2, 3, "config not-json\n"),
+    ("run --image none --turns 0", 9, 7, UNREAD),
+    ("run --config none --turns 0", 9, 7, UNREAD),
 ];
 
-fn expect_failure(
-    rt: &impl Abort,
-    alloc: Global,
-    begin: Begin<'_>,
-    call: u64,
-    want: &str,
-) -> Result<(), OutFault> {
-    let program = elf(rt, NONE);
-    let mut files = files_of(alloc, SMALL.as_bytes(), &program)?;
-    files.put("empty", &[])?;
-    files.fail_at(call)?;
-    expect_refusal(rt, alloc, &mut files, begin, want)
+#[test]
+fn a_failed_read_is_answered(rt: HostRuntime) -> Result<(), Fail> {
+    for &(line, number, code, report) in &FAILURES {
+        let call = Call {
+            line,
+            fails: [number, 0, 0, 0],
+            code,
+            report,
+            ..READABLE
+        };
+        expect_call(&rt, rt.alloc(), &call)?;
+    }
+    Ok(())
 }
 
+// Files of zeros, whose reading would fail.
+static TOO_LONG: [Call<'static>; 3] = [
+    Call {
+        line: "run --image a --turns 0",
+        files: &[("a", Image(&[], 65_537))],
+        fails: [2, 0, 0, 0],
+        code: 4,
+        report: "elf outside-ram 0\n",
+        ..NOTHING
+    },
+    Call {
+        line: "run --config c --turns 0",
+        files: &[("c", Image(&[], 65_537))],
+        fails: [2, 0, 0, 0],
+        code: 3,
+        report: "config too-long 65537\n",
+        ..NOTHING
+    },
+    Call {
+        line: "run --config d --turns 0",
+        files: &[("d", Text(SMALL)), ("p.elf", Image(&[], 67_108_865))],
+        fails: [4, 0, 0, 0],
+        code: 4,
+        report: "elf too-long 67108865\n",
+        ..NOTHING
+    },
+];
+
 #[test]
-fn a_failed_read_is_answered(rt: HostRuntime) -> Result<(), OutFault> {
-    for &(begin, call, want) in &FAILURES {
-        expect_failure(&rt, rt.alloc(), begin, call, want)?;
+fn nothing_is_read_of_a_file_that_is_too_long(rt: HostRuntime) -> Result<(), Fail> {
+    for call in &TOO_LONG {
+        expect_call(&rt, rt.alloc(), call)?;
     }
     Ok(())
 }
@@ -438,16 +361,12 @@ impl Files for Ending {
 }
 
 #[test]
-fn a_file_that_ends_early_counts_as_what_was_read(rt: HostRuntime) -> Result<(), OutFault> {
-    let mut files = Ending;
-    let start = start_of(rt.alloc(), &mut files, Begin::Config("c"));
-    let line = refusal(rt.alloc(), start)?;
-    same(
-        &rt,
-        &line.as_str(),
-        &"config wrong-kind top\n",
-        "refusal of",
-        "what was read",
-    );
+fn a_file_that_ends_early_counts_as_what_was_read(rt: HostRuntime) -> Result<(), Fail> {
+    let call = Call {
+        code: 3,
+        report: "config wrong-kind top\n",
+        ..CONFIGURED
+    };
+    streams_after(&rt, rt.alloc(), &mut Ending, &call, call.line)?;
     Ok(())
 }

@@ -1,39 +1,14 @@
-// The one line that the program reports.
+//! The one line that the program reports.
 
-ghost use Rattle.std.specs.Prelude.{◌≡◌, ◌<◌, ◌≤◌, ◌++◌, ◌∷◌, [], IfOk, OnOk, string_bytes};
-ghost use Rattle.commit_log.specs.Spelling.{hex, hex_digit};
-ghost use Rattle.dromajo.specs.Report.{config_text, elf_text, field_name, key_name, object_name, report_line, status_text};
+ghost use Rattle.std.specs.Prelude.{◌≡◌, ◌≤◌, ◌++◌, IfOk, OnOk, string_bytes};
+ghost use Rattle.commit_log.specs.Spelling.{hex};
+ghost use Rattle.dromajo.specs.Report.{boot_text, object_name, report_line, status_text};
 
+use crate::refusals::{checkpoint_text, config_text, elf_text};
 use crate::status::{Status, Which};
-use elf_load::{ElfFault, ElfField};
-use sim_config::{ConfigFault, Key};
+use commit_log::hex_digit;
+use hart_turns::BootFault;
 use std::alloc::{AllocError, Global};
-
-/// A lower-case hexadecimal digit.
-fn hex_digit(digit: u64) -> char
-    requires { digit < 16 }
-    ensures value { result ≡ hex_digit digit }
-    ensures ascii { result < 128 }
-{
-    match digit {
-        0 => '0',
-        1 => '1',
-        2 => '2',
-        3 => '3',
-        4 => '4',
-        5 => '5',
-        6 => '6',
-        7 => '7',
-        8 => '8',
-        9 => '9',
-        10 => 'a',
-        11 => 'b',
-        12 => 'c',
-        13 => 'd',
-        14 => 'e',
-        _ => 'f',
-    }
-}
 
 /// Appends the `count` lowest hexadecimal digits of a number, the highest of them first.
 #[tactic(auto, unfolding(commit_log::specs::Spelling::hex))]
@@ -42,7 +17,7 @@ fn push_hex(line: &mut String, count: u8, value: u64) -> Result<(), AllocError>
     ensures { OnOk result (string_bytes line.new ≡ string_bytes line.old ++ hex count value) }
 {
     for place in (0..count).rev() {
-        line.push(hex_digit((value >> (4 * place)) % 16))?;
+        line.push(hex_digit((value >> (4 * place)) % 16) as char)?;
     }
     Ok(())
 }
@@ -58,81 +33,19 @@ fn object_name(which: Which) -> &'static str
     }
 }
 
-/// The name of a field of an ELF file.
-fn field_name(field: ElfField) -> &'static str
-    ensures { result.now ≡ field_name field }
-{
-    match field {
-        ElfField::Class => "class",
-        ElfField::Order => "order",
-        ElfField::Type2 => "type",
-        ElfField::Machine => "machine",
-        ElfField::Phentsize => "phentsize",
-        ElfField::Entry => "entry",
-        ElfField::Shentsize => "shentsize",
-        ElfField::Link => "link",
-        ElfField::Tohost => "tohost",
-    }
-}
-
-/// Why a program is refused.
-fn elf_text(alloc: Global, fault: ElfFault) -> Result<String, AllocError>
-    ensures { IfOk result (λ text. string_bytes text ≡ elf_text fault) }
+/// How a boot failed.
+fn boot_text(alloc: Global, fault: BootFault) -> Result<String, AllocError>
+    ensures { IfOk result (λ text. string_bytes text ≡ boot_text fault) }
 {
     match fault {
-        ElfFault::NotElf => String::from_str(alloc, "elf not-elf"),
-        ElfFault::WrongKind(field) => {
-            let name = field_name(field);
-            format!(in alloc; "elf wrong-kind {name}")
+        BootFault::Trap { hart, pc, cause } => {
+            let mut text = format!(in alloc; "boot trap hart={hart} pc=")?;
+            push_hex(&mut text, 16, pc)?;
+            let end = format!(in alloc; " cause={cause}")?;
+            text.push_str(end.as_str())?;
+            Ok(text)
         }
-        ElfFault::Truncated(offset) => format!(in alloc; "elf truncated {offset}"),
-        ElfFault::OutsideRam(segment) => format!(in alloc; "elf outside-ram {segment}"),
-        ElfFault::Shrinks(segment) => format!(in alloc; "elf shrinks {segment}"),
-        ElfFault::TooLong(len) => format!(in alloc; "elf too-long {len}"),
-    }
-}
-
-/// A key as it is spelled, and `top` for the value as a whole.
-fn key_name(key: Key) -> &'static str
-    ensures { result.now ≡ key_name key }
-{
-    match key {
-        Key::Top => "top",
-        Key::Harts => "harts",
-        Key::Ram => "ram",
-        Key::Rom => "rom",
-        Key::Slice => "slice",
-        Key::Program => "program",
-        Key::Taken => "taken",
-        Key::Tohost => "tohost",
-        Key::Version => "version",
-    }
-}
-
-/// Why a configuration is refused.
-fn config_text(alloc: Global, fault: &ConfigFault) -> Result<String, AllocError>
-    ensures { IfOk result (λ text. string_bytes text ≡ config_text fault.now) }
-{
-    match fault {
-        ConfigFault::NotJson => String::from_str(alloc, "config not-json"),
-        ConfigFault::Missing(key) => {
-            let name = key_name(*key);
-            format!(in alloc; "config missing {name}")
-        }
-        ConfigFault::Unknown(key) => {
-            let name = key.as_str();
-            format!(in alloc; "config unknown {name}")
-        }
-        ConfigFault::WrongKind(key) => {
-            let name = key_name(*key);
-            format!(in alloc; "config wrong-kind {name}")
-        }
-        ConfigFault::OutOfRange(key) => {
-            let name = key_name(*key);
-            format!(in alloc; "config out-of-range {name}")
-        }
-        ConfigFault::TooLong(len) => format!(in alloc; "config too-long {len}"),
-        ConfigFault::NoMemory => String::from_str(alloc, "no memory"),
+        BootFault::Long { hart } => format!(in alloc; "boot long hart={hart}"),
     }
 }
 
@@ -156,6 +69,8 @@ fn text_of(alloc: Global, status: &Status, turns: u64, taken: u64) -> Result<Str
         Status::Usage => String::from_str(alloc, "usage: dromajo command --name value"),
         Status::BadConfig(fault) => config_text(alloc, fault),
         Status::BadElf(fault) => elf_text(alloc, *fault),
+        Status::BadCheckpoint(fault) => checkpoint_text(alloc, fault),
+        Status::BootFault(fault) => boot_text(alloc, *fault),
         Status::ReadFault(which) => {
             let name = object_name(*which);
             format!(in alloc; "read fault {name}")

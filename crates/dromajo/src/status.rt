@@ -1,11 +1,13 @@
-// How a call ended.
+//! How a call ended.
 
 ghost use Rattle.std.specs.Prelude.{◌≡◌};
 ghost use Rattle.std.specs.Process.{exit_status};
-ghost use Rattle.dromajo.specs.Classes.{start_status, stop_status};
+ghost use Rattle.dromajo.specs.Classes.{load_status, start_status, stop_status};
 ghost use Rattle.dromajo.specs.Codes.{code_of};
 
 use elf_load::ElfFault;
+use hart_turns::BootFault;
+use image_saver::LoadFault;
 use machine_start::StartFault;
 use outside_acts::Stop;
 use sim_config::ConfigFault;
@@ -35,6 +37,11 @@ pub enum Status {
     BadConfig(ConfigFault),
     /// 4: the program is refused; a flat image that is too long is `OutsideRam(0)`.
     BadElf(ElfFault),
+    /// 5: the checkpoint is refused: its meta text, or a length. It never carries `LoadFault::Failed`, nor
+    /// want of memory.
+    BadCheckpoint(LoadFault),
+    /// 6: the checkpoint's boot ROM did not lead its harts out of debug mode.
+    BootFault(BootFault),
     /// 7: a read failed.
     ReadFault(Which),
     /// 8: a write failed.
@@ -58,6 +65,8 @@ impl Status {
             Status::Usage => 2,
             Status::BadConfig(_) => 3,
             Status::BadElf(_) => 4,
+            Status::BadCheckpoint(_) => 5,
+            Status::BootFault(_) => 6,
             Status::ReadFault(_) => 7,
             Status::WriteFault(_) => 8,
             Status::NoMemory => 9,
@@ -83,6 +92,17 @@ pub(crate) fn start_status(fault: StartFault) -> Status
         StartFault::Elf(fault) => Status::BadElf(fault),
         StartFault::Unread => Status::ReadFault(Which::Files),
         StartFault::NoMemory => Status::NoMemory,
+    }
+}
+
+/// The status of a checkpoint that could not be loaded.
+pub(crate) fn load_status(fault: LoadFault) -> Status
+    ensures { result ≡ load_status fault }
+{
+    match fault {
+        LoadFault::Failed => Status::ReadFault(Which::Files),
+        LoadFault::NoMemory => Status::NoMemory,
+        fault => Status::BadCheckpoint(fault),
     }
 }
 

@@ -1,4 +1,4 @@
-// The top call: the words, the job, the report.
+//! The top call: the words, the job, the report.
 
 ghost use Rattle.std.specs.Prelude.{◌≡◌, IfErr, IfSome, None, OnErr, Some};
 ghost use Rattle.outside_io.specs.Causes.{Rose};
@@ -18,7 +18,7 @@ use job_words::{Job, named_job};
 use outside_acts::Objects;
 use outside_io::{Files, OutFault, Sink, Source};
 use std::alloc::Global;
-use turn_runs::Feed;
+use turn_runs::{Feed, resume};
 
 /// A job that ended with no turn to report.
 fn ended_early(status: Status) -> Finished
@@ -60,6 +60,10 @@ fn do_job<F: Files, I: Source, O: Sink>(
     };
     let mut feed = Feed::new();
     let mut outside = Objects { files, input, out };
+    match resume(&machine, &mut feed, &mut outside) {
+        Ok(()) => {}
+        Err(stop) => return ended_early(stop_status(stop)),
+    }
     match do_work(alloc, &job.work, &mut machine, &mut feed, &mut outside) {
         Ok(finished) => finished,
         Err(stop) => ended_early(stop_status(stop)),

@@ -1,18 +1,12 @@
-// Runs of the whole program with a trace. The words of the programs are an assembler's (llvm-mc), each with
-// its assembly beside it, and the lines are reckoned by hand.
+//! Calls of the whole program with a trace. The words of the programs are an assembler's (llvm-mc), each with
+//! its assembly beside it, and the lines are reckoned by hand.
 
-use crate::test_support::{
-    Outside, Row, expect_file, expect_row, expect_written, program_of, same, words_of,
-};
-use crate::top::dromajo;
+use crate::test_files::Content::{Absent, Image, Program, Text};
+use crate::test_files::{File, bytes_of};
+use crate::test_support::{Call, NOTHING, expect_call, same, streams_after};
 use outside_io::DirFiles;
-use std::alloc::Global;
 use std::fs;
-use std::process::Abort;
 use std::test::Fail;
-
-// A configuration, a program and a call.
-type Traced = (&'static str, &'static [u32], Row);
 
 const ONE_STEP: &str = "{\"harts\":1,\"ram\":65536,\"slice\":1,\"program\":\"p.elf\"}";
 
@@ -65,213 +59,179 @@ const SENDS: [u32; 6] = [
     0x0000_006f, // jal x0,0
 ];
 
-static TRACED: [Traced; 5] = [
-    (
-        TWO_HARTS,
-        &RESERVES,
-        Row {
-            line: "run --config c --turns 7 --trace t",
-            code: 0,
-            report: "done turns=7 taken=0\n",
-            console: "",
-            trace: Some(
-                "C 0 M 0000000080000000 f1402573 x10 0000000000000000\n\
-                 C 1 M 0000000080000000 f1402573 x10 0000000000000001\n\
-                 C 0 M 0000000080000004 00000597 x11 0000000080000004\n\
-                 C 1 M 0000000080000004 00000597 x11 0000000080000004\n\
-                 C 0 M 0000000080000008 0fc58593 x11 0000000080000100\n\
-                 C 1 M 0000000080000008 0fc58593 x11 0000000080000100\n\
-                 C 0 M 000000008000000c 00051a63\n\
-                 C 1 M 000000008000000c 00051a63\n\
-                 C 0 M 0000000080000010 1005a62f x12 0000000000000000\n\
-                 C 1 M 0000000080000020 00000013\n\
-                 C 0 M 0000000080000014 18b5a6af x13 0000000000000000 st 0000000080000100 4 80000100\n\
-                 C 1 M 0000000080000024 0000006f\n\
-                 C 0 M 0000000080000018 0005a703 x14 ffffffff80000100\n\
-                 C 1 M 0000000080000024 0000006f\n",
-            ),
-            left: "",
-        },
-    ),
-    (
-        TWO_HARTS,
-        &DISTURBS,
-        Row {
-            line: "run --config c --turns 7 --trace t",
-            code: 0,
-            report: "done turns=7 taken=0\n",
-            console: "",
-            trace: Some(
-                "C 0 M 0000000080000000 f1402573 x10 0000000000000000\n\
-                 C 1 M 0000000080000000 f1402573 x10 0000000000000001\n\
-                 C 0 M 0000000080000004 00000597 x11 0000000080000004\n\
-                 C 1 M 0000000080000004 00000597 x11 0000000080000004\n\
-                 C 0 M 0000000080000008 0fc58593 x11 0000000080000100\n\
-                 C 1 M 0000000080000008 0fc58593 x11 0000000080000100\n\
-                 C 0 M 000000008000000c 00051a63\n\
-                 C 1 M 000000008000000c 00051a63\n\
-                 C 0 M 0000000080000010 1005a62f x12 0000000000000000\n\
-                 C 1 M 0000000080000020 00b583a3 st 0000000080000107 1 00\n\
-                 C 0 M 0000000080000014 18b5a6af x13 0000000000000001\n\
-                 C 1 M 0000000080000024 0000006f\n\
-                 C 0 M 0000000080000018 0005a703 x14 0000000000000000\n\
-                 C 1 M 0000000080000024 0000006f\n",
-            ),
-            left: "",
-        },
-    ),
-    (
-        ONE_STEP,
-        &NOWHERE,
-        Row {
-            line: "run --config c --turns 2 --trace t",
-            code: 0,
-            report: "done turns=2 taken=0\n",
-            console: "",
-            trace: Some(
-                "C 0 M 0000000080000000 000102b7 x5 0000000000010000\n\
-                 X 0 M 0000000080000004 5 0000000000010000\n",
-            ),
-            left: "",
-        },
-    ),
-    (
-        WINDOW,
-        &SENDS,
-        Row {
-            line: "run --config c --turns 1 --trace t",
-            code: 0,
-            report: "done turns=1 taken=0\n",
-            console: "A",
-            trace: Some(
-                "C 0 M 0000000080000000 10100293 x5 0000000000000101\n\
-                 C 0 M 0000000080000004 03029293 x5 0101000000000000\n\
-                 C 0 M 0000000080000008 0412e293 x5 0101000000000041\n\
-                 C 0 M 000000008000000c 00001317 x6 000000008000100c\n\
-                 C 0 M 0000000080000010 fe533a23 st 0000000080001000 8 0101000000000041\n\
-                 H 0101000000000041\n",
-            ),
-            left: "",
-        },
-    ),
-    // the empty image: the word of zeros is no instruction, and the handler at 0 is no memory
-    (
-        "",
-        &[],
-        Row {
-            line: "run --image a.bin --turns 1 --trace t",
-            code: 0,
-            report: "done turns=1 taken=0\n",
-            console: "",
-            trace: Some(
-                "X 0 M 0000000080000000 2 0000000000000000\n\
-                 X 0 M 0000000000000000 1 0000000000000000\n\
-                 X 0 M 0000000000000000 1 0000000000000000\n\
-                 X 0 M 0000000000000000 1 0000000000000000\n\
-                 X 0 M 0000000000000000 1 0000000000000000\n\
-                 X 0 M 0000000000000000 1 0000000000000000\n\
-                 X 0 M 0000000000000000 1 0000000000000000\n\
-                 X 0 M 0000000000000000 1 0000000000000000\n\
-                 X 0 M 0000000000000000 1 0000000000000000\n\
-                 X 0 M 0000000000000000 1 0000000000000000\n\
-                 X 0 M 0000000000000000 1 0000000000000000\n\
-                 X 0 M 0000000000000000 1 0000000000000000\n\
-                 X 0 M 0000000000000000 1 0000000000000000\n\
-                 X 0 M 0000000000000000 1 0000000000000000\n\
-                 X 0 M 0000000000000000 1 0000000000000000\n\
-                 X 0 M 0000000000000000 1 0000000000000000\n",
-            ),
-            left: "",
-        },
-    ),
-];
+// What stands in the file of the trace before it is started.
+const OLD: File = ("t", Text("what stood there before\n"));
 
-fn expect_traced(
-    rt: &impl Abort,
-    alloc: Global,
-    config: &str,
-    program: &[u32],
-    row: &Row,
-) -> Result<(), Fail> {
-    let mut outside = Outside::new(alloc, config, program, b"")?;
-    outside.files.put("t", b"what stood there before\n")?;
-    expect_row(rt, alloc, &mut outside, row)?;
-    expect_file(rt, &outside, "c", Some(config), row.line);
-    Ok(())
-}
+const NOWHERE_LINES: &str = "C 0 M 0000000080000000 000102b7 x5 0000000000010000\n\
+                             X 0 M 0000000080000004 5 0000000000010000\n";
+
+static TRACED: [Call<'static>; 6] = [
+    Call {
+        line: "run --config c --turns 7 --trace t",
+        files: &[("c", Text(TWO_HARTS)), ("p.elf", Program(&RESERVES)), OLD],
+        report: "done turns=7 taken=0\n",
+        after: &[
+            ("c", Text(TWO_HARTS)),
+            (
+                "t",
+                Text(
+                    "C 0 M 0000000080000000 f1402573 x10 0000000000000000\n\
+         C 1 M 0000000080000000 f1402573 x10 0000000000000001\n\
+         C 0 M 0000000080000004 00000597 x11 0000000080000004\n\
+         C 1 M 0000000080000004 00000597 x11 0000000080000004\n\
+         C 0 M 0000000080000008 0fc58593 x11 0000000080000100\n\
+         C 1 M 0000000080000008 0fc58593 x11 0000000080000100\n\
+         C 0 M 000000008000000c 00051a63\n\
+         C 1 M 000000008000000c 00051a63\n\
+         C 0 M 0000000080000010 1005a62f x12 0000000000000000\n\
+         C 1 M 0000000080000020 00000013\n\
+         C 0 M 0000000080000014 18b5a6af x13 0000000000000000 st 0000000080000100 4 80000100\n\
+         C 1 M 0000000080000024 0000006f\n\
+         C 0 M 0000000080000018 0005a703 x14 ffffffff80000100\n\
+         C 1 M 0000000080000024 0000006f\n",
+                ),
+            ),
+        ],
+        ..NOTHING
+    },
+    Call {
+        line: "run --config c --turns 7 --trace t",
+        files: &[("c", Text(TWO_HARTS)), ("p.elf", Program(&DISTURBS)), OLD],
+        report: "done turns=7 taken=0\n",
+        after: &[
+            ("c", Text(TWO_HARTS)),
+            (
+                "t",
+                Text(
+                    "C 0 M 0000000080000000 f1402573 x10 0000000000000000\n\
+         C 1 M 0000000080000000 f1402573 x10 0000000000000001\n\
+         C 0 M 0000000080000004 00000597 x11 0000000080000004\n\
+         C 1 M 0000000080000004 00000597 x11 0000000080000004\n\
+         C 0 M 0000000080000008 0fc58593 x11 0000000080000100\n\
+         C 1 M 0000000080000008 0fc58593 x11 0000000080000100\n\
+         C 0 M 000000008000000c 00051a63\n\
+         C 1 M 000000008000000c 00051a63\n\
+         C 0 M 0000000080000010 1005a62f x12 0000000000000000\n\
+         C 1 M 0000000080000020 00b583a3 st 0000000080000107 1 00\n\
+         C 0 M 0000000080000014 18b5a6af x13 0000000000000001\n\
+         C 1 M 0000000080000024 0000006f\n\
+         C 0 M 0000000080000018 0005a703 x14 0000000000000000\n\
+         C 1 M 0000000080000024 0000006f\n",
+                ),
+            ),
+        ],
+        ..NOTHING
+    },
+    Call {
+        line: "run --config c --turns 2 --trace t",
+        files: &[("c", Text(ONE_STEP)), ("p.elf", Program(&NOWHERE)), OLD],
+        report: "done turns=2 taken=0\n",
+        after: &[("c", Text(ONE_STEP)), ("t", Text(NOWHERE_LINES))],
+        ..NOTHING
+    },
+    Call {
+        line: "run --config c --turns 1 --trace t",
+        files: &[("c", Text(WINDOW)), ("p.elf", Program(&SENDS)), OLD],
+        report: "done turns=1 taken=0\n",
+        console: "A",
+        after: &[
+            ("c", Text(WINDOW)),
+            (
+                "t",
+                Text(
+                    "C 0 M 0000000080000000 10100293 x5 0000000000000101\n\
+         C 0 M 0000000080000004 03029293 x5 0101000000000000\n\
+         C 0 M 0000000080000008 0412e293 x5 0101000000000041\n\
+         C 0 M 000000008000000c 00001317 x6 000000008000100c\n\
+         C 0 M 0000000080000010 fe533a23 st 0000000080001000 8 0101000000000041\n\
+         H 0101000000000041\n",
+                ),
+            ),
+        ],
+        ..NOTHING
+    },
+    // the empty image: the word of zeros is no instruction, and the handler at 0 is no memory
+    Call {
+        line: "run --image a.bin --turns 1 --trace t",
+        files: &[("a.bin", Image(&[], 0)), OLD],
+        report: "done turns=1 taken=0\n",
+        after: &[(
+            "t",
+            Text(
+                "X 0 M 0000000080000000 2 0000000000000000\n\
+         X 0 M 0000000000000000 1 0000000000000000\n\
+         X 0 M 0000000000000000 1 0000000000000000\n\
+         X 0 M 0000000000000000 1 0000000000000000\n\
+         X 0 M 0000000000000000 1 0000000000000000\n\
+         X 0 M 0000000000000000 1 0000000000000000\n\
+         X 0 M 0000000000000000 1 0000000000000000\n\
+         X 0 M 0000000000000000 1 0000000000000000\n\
+         X 0 M 0000000000000000 1 0000000000000000\n\
+         X 0 M 0000000000000000 1 0000000000000000\n\
+         X 0 M 0000000000000000 1 0000000000000000\n\
+         X 0 M 0000000000000000 1 0000000000000000\n\
+         X 0 M 0000000000000000 1 0000000000000000\n\
+         X 0 M 0000000000000000 1 0000000000000000\n\
+         X 0 M 0000000000000000 1 0000000000000000\n\
+         X 0 M 0000000000000000 1 0000000000000000\n",
+            ),
+        )],
+        ..NOTHING
+    },
+    // the configuration is read before a trace takes its place
+    Call {
+        line: "run --config c --turns 1 --trace c",
+        files: &[("c", Text(ONE_STEP)), ("p.elf", Program(&NOWHERE))],
+        report: "done turns=1 taken=0\n",
+        after: &[
+            (
+                "c",
+                Text("C 0 M 0000000080000000 000102b7 x5 0000000000010000\n"),
+            ),
+            ("t", Absent),
+        ],
+        ..NOTHING
+    },
+];
 
 #[test]
 fn each_step_has_its_line(rt: HostRuntime) -> Result<(), Fail> {
-    for (config, program, row) in &TRACED {
-        expect_traced(&rt, rt.alloc(), config, program, row)?;
+    for call in &TRACED {
+        expect_call(&rt, rt.alloc(), call)?;
     }
     Ok(())
 }
 
-#[test]
-fn the_configuration_is_read_before_a_trace_takes_its_place(rt: HostRuntime) -> Result<(), Fail> {
-    let mut outside = Outside::new(rt.alloc(), ONE_STEP, &NOWHERE, b"")?;
-    let row = Row {
-        line: "run --config c --turns 1 --trace c",
-        code: 0,
-        report: "done turns=1 taken=0\n",
-        console: "",
-        trace: None,
-        left: "",
-    };
-    expect_row(&rt, rt.alloc(), &mut outside, &row)?;
-    let line = "C 0 M 0000000080000000 000102b7 x5 0000000000010000\n";
-    expect_file(&rt, &outside, "c", Some(line), row.line);
-    Ok(())
-}
-
-// Names of a trace, the status's number and the report: the second one is in a folder that is not there.
-static PATHS: [(&str, u8, &str); 2] = [
-    (
-        "run --config c --turns 2 --trace t",
-        0,
-        "done turns=2 taken=0\n",
-    ),
-    (
-        "run --config c --turns 2 --trace absent/t",
-        8,
-        "write fault files\n",
-    ),
+// Calls over the file system: the second trace is in a folder that is not there.
+static PATHS: [Call<'static>; 2] = [
+    Call {
+        line: "run --config c --turns 2 --trace t",
+        report: "done turns=2 taken=0\n",
+        ..NOTHING
+    },
+    Call {
+        line: "run --config c --turns 2 --trace absent/t",
+        code: 8,
+        report: "write fault files\n",
+        ..NOTHING
+    },
 ];
-
-// Makes a call over the file system: the status's number, and the objects outside.
-fn call_in_folder(rt: &HostRuntime, line: &str) -> Result<(u8, Outside), Fail> {
-    let mut files = DirFiles::new(rt);
-    let mut outside = Outside::new(rt.alloc(), "", &[], b"")?;
-    let words = words_of(rt.alloc(), line)?;
-    let status = dromajo(
-        rt.alloc(),
-        &words,
-        &mut files,
-        &mut outside.input,
-        &mut outside.out,
-        &mut outside.report,
-    );
-    Ok((status.code(), outside))
-}
 
 #[test]
 fn a_trace_is_written_to_the_file_system(rt: HostRuntime) -> Result<(), Fail> {
     fs::write(&rt, "c", ONE_STEP)?;
-    let program = program_of(rt.alloc(), &NOWHERE)?;
-    fs::write(&rt, "p.elf", program.as_slice())?;
-    for &(line, code, report) in &PATHS {
-        let (got, outside) = call_in_folder(&rt, line)?;
-        same(&rt, &got, &code, "the status of", line);
-        expect_written(&rt, &outside, report, "", line);
+    if let Some(program) = bytes_of(&rt, rt.alloc(), Program(&NOWHERE))? {
+        fs::write(&rt, "p.elf", program.as_slice())?;
+    }
+    for call in &PATHS {
+        let mut files = DirFiles::new(&rt);
+        streams_after(&rt, rt.alloc(), &mut files, call, call.line)?;
     }
     let trace = fs::read_to_string(&rt, "t")?;
-    let lines = "C 0 M 0000000080000000 000102b7 x5 0000000000010000\n\
-                 X 0 M 0000000080000004 5 0000000000010000\n";
     same(
         &rt,
         &trace.as_str(),
-        &lines,
+        &NOWHERE_LINES,
         "the trace",
         "in the file system",
     );

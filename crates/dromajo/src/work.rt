@@ -1,4 +1,4 @@
-// What is done with a machine.
+//! What is done with a machine.
 
 ghost use Rattle.std.specs.Prelude.{◌≡◌, ◌≤◌, IfErr, IfOk, IsSome, OnOk};
 ghost use Rattle.job_words.specs.Job.{Turns};

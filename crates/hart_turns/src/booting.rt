@@ -34,7 +34,10 @@ pub enum BootFault {
 
 impl Running {
     /// One boot step of hart `h`, which answers the pc and the cause of the exception that it met.
-    #[tactic(auto, unfolding(crate::specs::Turn::one_step))]
+    ///
+    /// It is made by the call that makes those of a turn, so that the step stands once in the program: a
+    /// second place of its own would keep decoding and execution from being inlined in the first.
+    #[tactic(auto, unfolding(crate::specs::Turn::one_step, crate::specs::Turn::hart_steps))]
     fn boot_step(&mut self, h: u8) -> Option<(u64, u8)>
         requires hart { h < length self.old.core.harts }
         requires devices { hart_count self.old.outside.board ≡ length self.old.core.harts }
@@ -45,7 +48,7 @@ impl Running {
         ensures sent { length self.new.outside.output.bytes ≤ length self.old.outside.output.bytes + 256 }
     {
         self.events.clear();
-        self.one_step(h);
+        self.hart_steps(h, 1);
         exception(&self.events.as_slice()[0])
     }
 

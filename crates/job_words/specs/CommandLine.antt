@@ -7,7 +7,7 @@ use Rattle.std.specs.List.{list_all, list_any}
 use Rattle.std.specs.Option.{option_map, option_and_then}
 use Rattle.std.specs.Str.{bytes_eq}
 use Rattle.std.specs.Str.Parse.{digits_value}
-use Rattle.job_words.specs.Job.{Begin, FromConfig, FromImage, Job, Logs, Turns, Work}
+use Rattle.job_words.specs.Job.{Begin, FromCheckpoint, FromConfig, FromImage, Job, Logs, Turns, Work}
 
 -- ---- values
 
@@ -79,6 +79,10 @@ at_file begin text = option_map begin (name_in text)
 abbrev pub run_begin : Option (List ℕ) → Option (List ℕ) → Option Begin
 run_begin config image = one (read_as (at_file FromConfig) config ++ read_as (at_file FromImage) image)
 
+-- exactly one checkpoint
+abbrev pub load_begin : Option (List ℕ) → Option Begin
+load_begin name = one (read_as (at_file FromCheckpoint) name)
+
 -- exactly one number of turns
 abbrev pub turns_in : Option (List ℕ) → Option ℕ
 turns_in turns = one (read_as (number_in most_turns) turns)
@@ -114,8 +118,16 @@ run_row = record {
   work = λ v. turns_work (v (codes "--turns")) (v (codes "--trace"));
 }
 
+abbrev pub load_row : Row
+load_row = record {
+  word = codes "load";
+  names = codes "--name" ∷ codes "--turns" ∷ codes "--trace" ∷ [];
+  begin = λ v. load_begin (v (codes "--name"));
+  work = λ v. turns_work (v (codes "--turns")) (v (codes "--trace"));
+}
+
 abbrev pub rows : List Row
-rows = run_row ∷ []
+rows = run_row ∷ load_row ∷ []
 
 -- a job has both its parts
 abbrev pub job_with : Option Begin → Option Work → Option Job

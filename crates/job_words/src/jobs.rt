@@ -5,13 +5,15 @@ ghost use Rattle.std.specs.Option.{option_copied};
 
 use std::marker::Model;
 
-/// Where a machine begins, by the file's name.
+/// Where a machine begins, by the name of a file or of a checkpoint.
 #[derive(Clone, Copy, PartialEq, Eq, Debug)]
 pub enum Begin<'a> {
     /// At a configuration and its program.
     Config(&'a str),
     /// At a flat image.
     Image(&'a str),
+    /// At a checkpoint, whose boot ROM is executed.
+    Checkpoint(&'a str),
 }
 
 /// The files that a run logs to.

@@ -2,7 +2,7 @@
 
 ghost use Rattle.std.specs.Prelude.{◌≡◌, IfSome};
 ghost use Rattle.std.specs.Option.{option_copied, option_map};
-ghost use Rattle.job_words.specs.CommandLine.{job_of, job_with, logs_in, row_job, run_begin, run_row, texts, turns_work};
+ghost use Rattle.job_words.specs.CommandLine.{job_of, job_with, load_begin, load_row, logs_in, row_job, run_begin, run_row, texts, turns_work};
 ghost use Rattle.job_words.specs.Seen.{HasFewTurns, MakesFewTurns, begin_seen, job_seen, work_seen};
 
 use crate::jobs::{Begin, Job, Logs, Work};
@@ -17,6 +17,7 @@ pub fn named_job(words: &[String]) -> Option<Job<'_>>
     let (command, others) = words.split_first()?;
     match command.as_str() {
         "run" => run_job(others),
+        "load" => load_job(others),
         _ => None,
     }
 }
@@ -33,6 +34,20 @@ fn run_job(words: &[String]) -> Option<Job<'_>>
     }
     let [turns, config, image, trace] = values;
     job_with(run_begin(config, image), turns_work(turns, trace))
+}
+
+/// The job of the words after `load`.
+fn load_job(words: &[String]) -> Option<Job<'_>>
+    ensures job { option_map job_seen result ≡ row_job load_row (texts words.now) }
+    ensures few { IfSome result HasFewTurns }
+{
+    let names = ["--name", "--turns", "--trace"];
+    let mut values = [None; 3];
+    if !walk(&names, words, &mut values) {
+        return None;
+    }
+    let [name, turns, trace] = values;
+    job_with(load_begin(name), turns_work(turns, trace))
 }
 
 /// The job of these parts, where both are there.
@@ -57,6 +72,13 @@ fn run_begin<'a>(config: Option<&'a str>, image: Option<&'a str>) -> Option<Begi
         (None, Some(image)) => Some(Begin::Image(file_name(image)?)),
         (Some(_), Some(_)) | (None, None) => None,
     }
+}
+
+/// The checkpoint of this name.
+fn load_begin<'a>(name: Option<&'a str>) -> Option<Begin<'a>>
+    ensures { option_map begin_seen result ≡ load_begin (option_copied name.entry) }
+{
+    Some(Begin::Checkpoint(file_name(name?)?))
 }
 
 /// So many turns, logged to these files.

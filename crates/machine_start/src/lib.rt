@@ -15,5 +15,5 @@ mod start;
 pub use config::config_start;
 pub use fault::StartFault;
 pub use image::image_start;
-pub use reading::{Contents, read_file};
+pub use reading::{Contents, fill, read_file};
 pub use start::Start;

@@ -19,7 +19,7 @@ pub enum Contents {
 
 /// Fills a buffer from the start of a file, and answers how many bytes it got: fewer than there is room
 /// for only where the file ends. Each call asks for all that are missing. The only error is `Failed`.
-fn fill<F: Files>(files: &mut F, name: &str, buf: &mut [u8]) -> Result<usize, OutFault>
+pub fn fill<F: Files>(files: &mut F, name: &str, buf: &mut [u8]) -> Result<usize, OutFault>
     ensures count { IfOk result (λ n. n ≤ length buf.new) }
     ensures bytes { IfOk result (λ n. IfSome (F.held files.old) (λ held.
         take n buf.new ≡ take (length buf.old) (file_of held name.now))) }

@@ -1,11 +1,8 @@
 -- The lines of events, one after another.
-use Rattle.std.proofs.Common.{◌≡◌, ℕ, ◌+◌, ◌<◌, List, [], ◌∷◌, ◌++◌, All, Option, None, Some, length, take, get_or, refl, ap, sym, ◌∙◌, append_assoc, add-one}
+use Rattle.std.proofs.Common.{◌≡◌, ℕ, ◌+◌, ◌<◌, List, [], ◌∷◌, ◌++◌, length, take, get_or, refl, ap, sym, ◌∙◌, append_assoc, add-one}
 use Rattle.std.proofs.Math.Seq.{take-suc}
 use Rattle.hart_step.specs.declared.event.Event.{Event}
-use Rattle.hart_step.specs.declared.event.Event.TheVariants.{Commit, Exception, Host, Interrupt}
-use Rattle.hart_step.specs.declared.event.Put.{Put}
-use Rattle.hart_step.specs.Events.{IsEvent, IsStored, IsWritten}
-use Rattle.commit_log.specs.Spelling.{HasSpelling, IsRegisterPart, IsStorePart, line}
+use Rattle.commit_log.specs.Spelling.{line}
 use Rattle.turn_runs.specs.Run.{trace_lines}
 
 pub no_lines : trace_lines [] ≡ []
@@ -42,23 +39,3 @@ lines_step text now longer buf last events i d within now_is longer_is buf_is la
     let begun : now ++ buf ≡ now ++ line (get_or events i d) = ap (λ (zs : List ℕ). now ++ zs) buf_is in
     let pushed = longer_is ∙ begun ∙ ap (λ (zs : List ℕ). zs ++ line (get_or events i d)) now_is in
     last_is ∙ ap (λ (zs : List ℕ). zs ++ 10 ∷ []) pushed ∙ line_more text events i d within
-
--- ---- the events of a step have a spelling
-
-register_spelled : (rd : Option (ℕ × ℕ)) → IsWritten rd → IsRegisterPart rd
-register_spelled None good = tt
-register_spelled (Some rd) good = good
-
-store_spelled : (st : Option Put) → IsStored st → IsStorePart st
-store_spelled None good = tt
-store_spelled (Some st) good = good
-
-event_spelled : (e : Event) → IsEvent e → HasSpelling e
-event_spelled (Commit hart mode pc insn rd st dv vl) good =
-    (good.0, register_spelled rd good.1, store_spelled st good.2)
-event_spelled (Exception hart mode pc cause tval) good = good
-event_spelled (Interrupt hart cause) good = good
-event_spelled (Host v) good = tt
-
-pub events_spelled : (events : List Event) → All IsEvent events → All HasSpelling events
-events_spelled events good = λ i d within. event_spelled _ (good i d within)

@@ -1,4 +1,5 @@
 pub mod Feeding
 pub mod Run
+pub mod Resuming
 pub mod Reaching
 pub mod Leaves

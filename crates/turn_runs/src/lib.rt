@@ -7,9 +7,11 @@
 
 mod feed;
 mod laws;
+mod resuming;
 mod running;
 mod turns;
 
 pub use feed::Feed;
 pub use laws::cut_in_turn;
+pub use resuming::resume;
 pub use running::{Ran, run};

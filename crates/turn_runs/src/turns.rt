@@ -1,7 +1,7 @@
 //! One turn of a run: the input, the steps, the console and the logs.
 
 ghost use Rattle.std.specs.Prelude.{◌≡◌, ◌<◌, ◌≤◌, ◌+◌, ◌++◌, ◌∷◌, [], All, IfErr, IfOk, OnOk};
-ghost use Rattle.commit_log.specs.Spelling.{HasSpelling};
+ghost use Rattle.hart_step.specs.Events.{IsEvent};
 ghost use Rattle.outside_acts.specs.Acts.{DidCut, ReadTo};
 ghost use Rattle.outside_acts.specs.Calls.{Caused, Does, GoesQuietly, Only, Stops};
 ghost use Rattle.outside_acts.specs.World.{Console, TheInput};
@@ -44,7 +44,7 @@ fn make_turn<W: Outside>(
 }
 
 /// Sends the console bytes of the last turn, where there are any.
-fn show<W: Outside>(machine: &Machine, outside: &mut W) -> Result<(), Stop>
+pub(crate) fn show<W: Outside>(machine: &Machine, outside: &mut W) -> Result<(), Stop>
     ensures whole { OnOk result (Does (send_acts machine.now.console) (W.world outside.old) (W.world outside.new)) }
     ensures cut { IfErr result (λ stop.
         Stops stop (send_acts machine.now.console) (W.world outside.old) (W.world outside.new)) }
@@ -59,7 +59,7 @@ fn show<W: Outside>(machine: &Machine, outside: &mut W) -> Result<(), Stop>
 
 /// Appends the lines of events to a text.
 fn push_lines(text: &mut Vec<u8>, events: &[Event]) -> Result<(), AllocError>
-    requires { All HasSpelling events.now }
+    requires { All IsEvent events.now }
     ensures { OnOk result (text.new.items ≡ text.old.items ++ trace_lines events.now) }
 {
     let mut line = LineBuf::new();
@@ -73,7 +73,6 @@ fn push_lines(text: &mut Vec<u8>, events: &[Event]) -> Result<(), AllocError>
 
 /// Appends the lines of the last turn to the trace, where there is one. `text` is a buffer that is used again in each
 /// turn.
-#[tactic(auto, using(crate::proofs::Lines::events_spelled))]
 fn log<W: Outside>(
     machine: &Machine,
     logs: &Logs<'_>,
