@@ -1,1 +1,3 @@
 pub mod Checkpoints
+pub mod Saves
+pub mod Pieces

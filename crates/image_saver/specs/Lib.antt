@@ -1,3 +1,4 @@
 pub mod Checkpoint
 pub mod Refusal
 pub mod Quiet
+pub mod Saving

@@ -1,4 +1,4 @@
-//! Why a checkpoint is not loaded.
+//! Why a checkpoint is not loaded, or not saved.
 
 use outside_io::OutFault;
 use sim_config::ConfigFault;
@@ -62,6 +62,40 @@ impl From<OutFault> for LoadFault {
         match read {
             OutFault::Failed => LoadFault::Failed,
             OutFault::NoMemory => LoadFault::NoMemory,
+        }
+    }
+}
+
+/// Why a checkpoint is not saved.
+#[derive(Clone, Copy, PartialEq, Eq, Debug)]
+pub enum SaveFault {
+    /// A file could not be started or added to.
+    Failed,
+    /// There was no memory.
+    NoMemory,
+}
+
+impl From<AllocError> for SaveFault {
+    ghost use Rattle.std.specs.Prelude.{◌≡◌};
+    ghost use Rattle.image_saver.specs.declared.fault.SaveFault.TheVariants.{NoMemory};
+
+    ghost from_gives = { λ _ fault. fault ≡ NoMemory };
+
+    fn from(_refused: AllocError) -> SaveFault {
+        SaveFault::NoMemory
+    }
+}
+
+impl From<OutFault> for SaveFault {
+    ghost use Rattle.std.specs.Prelude.{◌≡◌};
+    ghost use Rattle.image_saver.specs.Saving.{write_refusal};
+
+    ghost from_gives = { λ write fault. fault ≡ write_refusal write };
+
+    fn from(write: OutFault) -> SaveFault {
+        match write {
+            OutFault::Failed => SaveFault::Failed,
+            OutFault::NoMemory => SaveFault::NoMemory,
         }
     }
 }

@@ -126,11 +126,11 @@ stops_send : (why : OutFault) (piece : List ℕ) → StopsAt (stop_by why stop.O
 stops_send fault.Failed piece = tt
 stops_send fault.NoMemory piece = tt
 
-stops_start : (why : OutFault) (name : List ℕ) → StopsAt (stop_by why stop.Files) (Start name)
+pub stops_start : (why : OutFault) (name : List ℕ) → StopsAt (stop_by why stop.Files) (Start name)
 stops_start fault.Failed name = tt
 stops_start fault.NoMemory name = tt
 
-stops_append : (why : OutFault) (name piece : List ℕ) → StopsAt (stop_by why stop.Files) (Append name piece)
+pub stops_append : (why : OutFault) (name piece : List ℕ) → StopsAt (stop_by why stop.Files) (Append name piece)
 stops_append fault.Failed name piece = tt
 stops_append fault.NoMemory name piece = tt
 
@@ -141,11 +141,11 @@ send_stops {piece} why n left held written = λ bytes from is.
     cut_one (Send piece) (stops_send why piece) (n, refl) (sends left held written bytes from is)
 
 -- of an act on a file a part was done, whatever was read before
-record DidPart (act : Act) (before now : Option Held) : Type 0 where
-  part : List Act
-  part_is : (from : ℕ) → IsPart from act part
-  on : OnFiles part
-  filed : Told before now (IsFiled part)
+pub record DidPart (act : Act) (before now : Option Held) : Type 0 where
+  pub part : List Act
+  pub part_is : (from : ℕ) → IsPart from act part
+  pub on : OnFiles part
+  pub filed : Told before now (IsFiled part)
 
 file_stops : {stop : Stop} {act : Act} {before now : World} → StopsAt stop act → now.left ≡ before.left → now.written ≡ before.written
     → DidPart act before.held now.held → Stops stop (act ∷ []) before now
@@ -155,7 +155,7 @@ file_stops {act = act} stops left written done = λ bytes from is.
 none_done : (act : Act) (a b : Option Held) → ((from : ℕ) → IsPart from act []) → Told a b (IsFiled []) → DidPart act a b
 none_done act a b part_is filed = record { part = []; part_is = part_is; on = on_none; filed = filed }
 
-start_part : (name : List ℕ) (a b : Option Held) → Told a b (MayBeEmptied name) → Told a b (KeepsOthers name) → DidPart (Start name) a b
+pub start_part : (name : List ℕ) (a b : Option Held) → Told a b (MayBeEmptied name) → Told a b (KeepsOthers name) → DidPart (Start name) a b
 start_part name None b named others = none_done (Start name) None b (λ from. inl refl) tt
 start_part name (Some x) None named others = absurd named
 start_part name (Some x) (Some y) (inl same) others =
@@ -167,7 +167,7 @@ start_part name (Some x) (Some y) (inr empty) others = record {
   filed = started name (Some x) (Some y) empty others;
 }
 
-append_part : (name piece : List ℕ) (a b : Option Held) → Told a b (GrowsByPrefix piece name) → Told a b (KeepsOthers name)
+pub append_part : (name piece : List ℕ) (a b : Option Held) → Told a b (GrowsByPrefix piece name) → Told a b (KeepsOthers name)
     → DidPart (Append name piece) a b
 append_part name piece None b named others = none_done (Append name piece) None b (λ from. inl refl) tt
 append_part name piece (Some x) None named others = absurd named
