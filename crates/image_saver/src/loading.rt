@@ -1,6 +1,6 @@
 //! Loading a checkpoint.
 
-ghost use Rattle.std.specs.Prelude.{◌≡◌, ◌<◌, ◌≤◌, Err, IfErr, IfOk, IfSome, Ok, OnOk, length};
+ghost use Rattle.std.specs.Prelude.{◌≡◌, ◌<◌, ◌≤◌, Err, IfErr, IfOk, IfSome, Ok, OnOk, length, take};
 ghost use Rattle.guest_ram.specs.Bytes.{most_bytes};
 ghost use Rattle.outside_io.specs.Content.{IsHeld, file_of};
 ghost use Rattle.sim_config.specs.Ranges.{IsMeta};
@@ -72,7 +72,7 @@ fn load_part<F: Files>(
     buf: &mut [u8],
 ) -> Result<(), LoadFault>
     ensures bytes { OnOk result (IfSome (F.held files.old) (λ held.
-        length (file_of held file.now) ≡ length buf.old → buf.new ≡ file_of held file.now)) }
+        buf.new ≡ take (length buf.old) (file_of held file.now))) }
     ensures refused { IfErr result (λ fault. IsRefused fault
         (IfSome (F.held files.old) (λ held. length (file_of held file.now) ≡ length buf.old → ⊥))
         (F.read_faults files.old) (F.read_faults files.new)) }
