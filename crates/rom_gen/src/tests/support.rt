@@ -188,7 +188,7 @@ fn context(board: &Board, harts: u8, c: u8) -> (u32, u32)
     requires board { hart_count board.now ≡ harts }
     requires context { c < 2 * harts }
 {
-    let _time = board.time();
+    board.see_fit();
     (board.plic().enabled(c), board.plic().threshold(c))
 }
 
