@@ -275,6 +275,7 @@ fn sdsp(c: u32) -> Option<Insn>
 /// The instruction that a 16-bit word stands for, or `None` where no form of the table matches it: the
 /// reserved and the floating-point forms, and each word whose two low bits are 11. It is what `decode`
 /// gives for the 32-bit word of the same instruction.
+#[inline(always)]
 pub fn expand(c: u16) -> Option<Insn>
     ensures form { result ≡ expanded c }
     ensures word { result ≡ word_decoded c }

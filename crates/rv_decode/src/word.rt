@@ -238,6 +238,7 @@ fn jump_register_of(w: u32) -> Option<Insn>
 }
 
 /// The instruction that a 32-bit word stands for, or `None` where no row of the table matches it.
+#[inline(always)]
 pub fn decode(w: u32) -> Option<Insn>
     ensures row { result ≡ decoded w }
     ensures in_range { IfSome result IsInRange }
