@@ -35,7 +35,7 @@ made_files name bytes held =
 made_is : (name bytes : List ℕ) (before now : Held) → now name ≡ Some bytes → KeepsOthers name before now → FilesDid (made name bytes) before now
 made_is name bytes before now named others = with_file_is name bytes before now named others ∙ sym (made_files name bytes before)
 
-made_has : (name bytes : List ℕ) (before now : Held) → FilesDid (made name bytes) before now → (now name ≡ Some bytes) × KeepsOthers name before now
+pub made_has : (name bytes : List ℕ) (before now : Held) → FilesDid (made name bytes) before now → (now name ≡ Some bytes) × KeepsOthers name before now
 made_has name bytes before now is =
     let same = is ∙ made_files name bytes before in (
       ap (λ (held : Held). held name) same ∙ with_file_named name bytes before,

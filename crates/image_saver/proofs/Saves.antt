@@ -7,7 +7,7 @@ use Rattle.outside_io.specs.declared.OutFault.{OutFault}
 use Rattle.outside_io.specs.declared.OutFault.TheVariants as out_fault
 use Rattle.outside_acts.specs.declared.Stop.{Stop}
 use Rattle.outside_acts.specs.declared.Stop.TheVariants as stop
-use Rattle.outside_acts.specs.Acts.{Act, Start, Append, StopsAt, filed, read, sent}
+use Rattle.outside_acts.specs.Acts.{Act, Start, Append, IsCut, StopsAt, filed, read, sent}
 use Rattle.outside_acts.proofs.Algebra.{cut_later, cut_sooner, filed_joined, filed_none, read_joined, read_none, sent_joined, sent_none, told_both}
 use Rattle.outside_acts.proofs.Held.{added, started, still_held, still_told}
 use Rattle.outside_acts.proofs.OneAct.{DidPart, OnFiles, append_part, start_part}
@@ -154,21 +154,24 @@ append_cut {T = T} {held = held} {writes = writes} {a = a} {b = b} why name piec
     (part_cut _ (Append name piece) (held a) (held b) (stops_append why name piece) (append_part name piece (held a) (held b) named others))
     (fault_cause {T = T} why (writes a) (writes b) cause) same
 
--- memory lacked before a file was started
+-- nothing was done
+pub none_done : (why : Stop) (name : List ℕ) (rest : List Act) → StopsAt why (Start name) → (from : ℕ) → IsCut why from (Start name ∷ rest) []
+none_done why name rest stops from = record {
+  done = [];
+  next = Start name;
+  rest = rest;
+  part = [];
+  acts_are = refl;
+  stops = stops;
+  part_is = inl refl;
+  left_are = refl;
+}
+
 none_cut : (name : List ℕ) (rest : List Act) (told : Option Held) → Told told told (FilesCut stop.NoMemory (Start name ∷ rest))
 none_cut name rest None = tt
 none_cut name rest (Some held) = record {
   front = [];
-  cut = λ from. record {
-    done = [];
-    next = Start name;
-    rest = rest;
-    part = [];
-    acts_are = refl;
-    stops = tt;
-    part_is = inl refl;
-    left_are = refl;
-  };
+  cut = none_done stop.NoMemory name rest tt;
   unread = read_none;
   unsent = sent_none;
   files_are = sym (filed_none held);

@@ -5,6 +5,7 @@ use Rattle.sim_config.specs.declared.fault.ConfigFault.{ConfigFault}
 use Rattle.sim_config.specs.declared.values.Meta.{Meta}
 use Rattle.sim_config.specs.Ranges.{IsMeta}
 use Rattle.sim_config.specs.Reading.{meta_of}
+use Rattle.hart_turns.specs.Machine.{MachineState, debug_machine}
 use Rattle.image_saver.specs.declared.fault.Part.{Part}
 use Rattle.image_saver.specs.declared.fault.Part.TheVariants.{Mainram, Bootram}
 use Rattle.image_saver.specs.declared.fault.LoadFault.{LoadFault}
@@ -52,6 +53,10 @@ checkpoint_of held name = do
   ram ← of_length Mainram meta.shape.ram (file_of held (part_file Mainram name))
   rom ← of_length Bootram meta.rom (file_of held (part_file Bootram name))
   Ok (record { meta = meta; ram = ram; rom = rom })
+
+-- the machine of a checkpoint before its boot: it is in debug mode, and executes the ROM
+abbrev pub debug_of : Checkpoint → MachineState
+debug_of c = debug_machine c.meta.shape c.meta.taken c.ram c.rom
 
 -- ---- what the caller may rely on
 

@@ -2,3 +2,4 @@ pub mod Checkpoint
 pub mod Refusal
 pub mod Quiet
 pub mod Saving
+pub mod Laws

@@ -19,8 +19,8 @@ use Rattle.image_saver.specs.Checkpoint.{meta_file, part_file}
 abbrev pub saved_meta : MachineState → List ℕ → Meta
 saved_meta m rom = record { shape = m.shape; rom = length rom; taken = m.taken; version = 1 }
 
--- the acts that write three files of these names: the text comes last, so that its file is empty where they were not
--- finished
+-- the acts that write three files of these names: the text comes last, so that once the first act was done its file has
+-- the whole text only where all were
 abbrev pub file_acts : List ℕ → List ℕ → List ℕ → List ℕ → List ℕ → List ℕ → List Act
 file_acts meta mainram bootram ram rom text =
     Start meta ∷ Start mainram ∷ Append mainram ram ∷ Start bootram ∷ Append bootram rom ∷ Append meta text ∷ []

@@ -7,10 +7,12 @@
 #![tactic(auto)]
 
 mod fault;
+mod laws;
 mod loading;
 mod names;
 mod saving;
 
 pub use fault::{LoadFault, Part, SaveFault};
+pub use laws::saved_is_loaded;
 pub use loading::{Loaded, load};
 pub use saving::save;

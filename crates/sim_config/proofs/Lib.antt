@@ -3,3 +3,4 @@ pub mod ReadLemmas
 pub mod RangeLemmas
 pub mod WriteLemmas
 pub mod OrderLemmas
+pub mod ReadBack

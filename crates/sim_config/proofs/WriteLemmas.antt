@@ -37,7 +37,7 @@ short_window : (ram n : ℕ) → ram ≤ most_bytes → IsWindow ram n → lengt
 short_window ram n small (inl zero) = short n (omega arith)
 short_window ram n small (inr inside) = short n (omega (arith, inside.inside.high))
 
-length_of_meta : (meta : Meta) → IsMeta meta → length (meta_bytes meta) ≤ longest_text
+pub length_of_meta : (meta : Meta) → IsMeta meta → length (meta_bytes meta) ≤ longest_text
 unfolding meta_bytes
 length_of_meta meta fits =
     let shape = fits.shape in
@@ -84,7 +84,7 @@ no_fault meta fits =
 
 -- ---- reading back
 
-back : (meta : Meta) (text : List ℕ) → IsMeta meta → length text ≤ longest_text → reading text ≡ Some (object (meta_members meta)) → meta_of text ≡ Ok meta
+pub back : (meta : Meta) (text : List ℕ) → IsMeta meta → length text ≤ longest_text → reading text ≡ Some (object (meta_members meta)) → meta_of text ≡ Ok meta
 back meta text fits within reads =
     meta_ok text (meta_members meta) (fault_of_reading MetaText text _ within reads ∙ no_fault meta fits) (members_of_reading text _ reads)
 
