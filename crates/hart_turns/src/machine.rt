@@ -248,6 +248,13 @@ impl Machine {
         &self.running.core
     }
 
+    /// The harts and their memory, without the rest of the machine.
+    pub fn into_core(self) -> Core
+        ensures { result ≡ self.machine.core }
+    {
+        self.running.core
+    }
+
     /// The devices.
     pub fn board(&self) -> &Board
         ensures { result.now ≡ self.now.machine.board }

@@ -1,2 +1,9 @@
 pub mod Steps
 pub mod Turns
+pub mod Runs
+pub mod Traces
+pub mod Destinations
+pub mod ShownClasses
+pub mod ShownEffects
+pub mod ShownSteps
+pub mod ShownRuns

@@ -17,7 +17,7 @@ use Rattle.hart_turns.proofs.Allowed.{board_is_allowed_lem}
 use Rattle.cosim_check.specs.Records.{Allows, core_past}
 use Rattle.trace_law.specs.Passing.{AllAllowed, Passes, StepsPass}
 
-joins : (tohost : ℕ) (core mid past : CoreState) (xs ys : List Event) → AllAllowed core tohost xs mid → AllAllowed mid tohost ys past → AllAllowed core tohost (xs ++ ys) past
+pub joins : (tohost : ℕ) (core mid past : CoreState) (xs ys : List Event) → AllAllowed core tohost xs mid → AllAllowed mid tohost ys past → AllAllowed core tohost (xs ++ ys) past
 joins tohost core mid past [] ys one two = subst (λ (c : CoreState). AllAllowed c tohost ys past) one two
 joins tohost core mid past (x ∷ xs) ys one two = (one.0, joins tohost (core_past core tohost x) mid past xs ys one.1 two)
 

@@ -30,7 +30,7 @@ split_at (x ∷ xs) ys [] rest next is = in_first xs (cc)
 split_at (x ∷ xs) ys (d ∷ done) rest next is = split_more x d (cc) (split_at xs ys done rest next (cc))
 
 -- a cut of two lists is one of the first, or one of the second after all of the first
-data CutOfTwo (stop : Stop) (from : ℕ) (xs ys front : List Act) : Type 0 where
+pub data CutOfTwo (stop : Stop) (from : ℕ) (xs ys front : List Act) : Type 0 where
   sooner : IsCut stop from xs front → CutOfTwo stop from xs ys front
   later : (left : List Act) → front ≡ xs ++ left → IsCut stop (read xs from) ys left → CutOfTwo stop from xs ys front
 
@@ -62,7 +62,7 @@ cut_by stop from xs ys front cut (in_second mid first second) =
       left_are = refl;
     })
 
-cut_of_two : {stop : Stop} {from : ℕ} {front : List Act} (xs ys : List Act) → IsCut stop from (xs ++ ys) front
+pub cut_of_two : {stop : Stop} {from : ℕ} {front : List Act} (xs ys : List Act) → IsCut stop from (xs ++ ys) front
     → CutOfTwo stop from xs ys front
 cut_of_two xs ys cut = cut_by _ _ xs ys _ cut (split_at xs ys cut.done cut.rest cut.next cut.acts_are)
 
@@ -70,7 +70,7 @@ no_such : (done : List Act) (next : Act) (rest : List Act) → [] ≡ done ++ ne
 no_such [] next rest is = cc
 no_such (d ∷ done) next rest is = cc
 
-none_cut : {A : Type 0} {stop : Stop} {from : ℕ} {front : List Act} → IsCut stop from [] front → A
+pub none_cut : {A : Type 0} {stop : Stop} {from : ℕ} {front : List Act} → IsCut stop from [] front → A
 none_cut cut = absurd (no_such cut.done _ _ cut.acts_are)
 
 one_by : (stop : Stop) (from : ℕ) (act next : Act) (done rest part front : List Act) → act ∷ [] ≡ done ++ next ∷ rest
@@ -86,7 +86,7 @@ one_by stop from act next (d ∷ done) rest part front is stops part_is left_is 
     absurd (no_such done next rest none)
 
 -- a cut of one act is a part of it
-one_cut : {stop : Stop} {from : ℕ} {front : List Act} (act : Act) → IsCut stop from (act ∷ []) front
+pub one_cut : {stop : Stop} {from : ℕ} {front : List Act} (act : Act) → IsCut stop from (act ∷ []) front
     → StopsAt stop act × IsPart from act front
 one_cut {stop} {from} act cut =
     one_by stop from act cut.next cut.done cut.rest cut.part _ cut.acts_are cut.stops cut.part_is cut.left_are

@@ -1,8 +1,8 @@
 -- The acts of one turn.
-use Rattle.std.proofs.Common.{◌≡◌, ℕ, ◌+◌, ◌≤◌, Bool, not, ◌==◌, if◌then◌else◌, List, [], ◌∷◌, ◌++◌, length, drop, Option, Some, None, refl, sym, ap, subst, ◌∙◌, arith, inl}
+use Rattle.std.proofs.Common.{◌≡◌, ℕ, ◌+◌, ◌≤◌, Bool, not, ◌==◌, if◌then◌else◌, List, [], ◌∷◌, ◌++◌, length, drop, Option, Some, None, IsTrue, refl, sym, ap, subst, ◌∙◌, arith, inl}
 use Rattle.hart_step.specs.declared.event.Event.{Event}
 use Rattle.hart_turns.specs.declared.machine.TurnEnd.{TurnEnd}
-use Rattle.hart_turns.specs.Machine.{MachineState, MachineView}
+use Rattle.hart_turns.specs.Machine.{MachineState, MachineView, is_running}
 use Rattle.hart_turns.specs.Turn.{Turned, turned}
 use Rattle.outside_acts.specs.declared.Stop.{Stop}
 use Rattle.outside_acts.specs.declared.Stop.TheVariants.{NoMemory}
@@ -46,7 +46,7 @@ shown_unread logs t from =
     ∙ append_unread logs.trace _ _ ∙ send_unread t.console from
 
 -- acts that read nothing more keep the place
-reached_more : {bytes : List ℕ} {from : ℕ} {xs ys : List Act} {m now : MachineState} {feed : Feed} {a b c : World}
+pub reached_more : {bytes : List ℕ} {from : ℕ} {xs ys : List Act} {m now : MachineState} {feed : Feed} {a b c : World}
     → Reached bytes from xs m now feed a b → Does ys b c → read ys (read xs from) ≡ read xs from
     → Reached bytes from (xs ++ ys) m now feed a c
 reached_more {bytes} {from} {xs} {ys} {m} {now} {feed} {a} {b} {c} stands does unread =
@@ -97,6 +97,10 @@ turn_made {bytes} {from} {m} {view} {end} {was} {feed} {filled} {now} {a} {b} fi
         did = did;
       };
     }
+
+-- a machine that is another one runs where that one does
+pub runs_still : {now next : MachineState} → now ≡ next → IsTrue (is_running next) → IsTrue (is_running now)
+runs_still is runs = subst (λ (m : MachineState). IsTrue (is_running m)) (sym is) runs
 
 -- ---- a turn that is shown, or cut
 

@@ -98,7 +98,8 @@ run_first logs {bytes} {from} {m} {feed} {a} fed = record {
   };
 }
 
-reached_both : {bytes : List ℕ} {from : ℕ} {xs ys : List Act} {m mid last now : MachineState} {feed feed' : Feed}
+-- acts were done, and then more acts from where they led
+pub reached_both : {bytes : List ℕ} {from : ℕ} {xs ys : List Act} {m mid last now : MachineState} {feed feed' : Feed}
     {a b c : World} → Reached bytes from xs m mid feed a b → Reached bytes (read xs from) ys last now feed' b c
     → Reached bytes from (xs ++ ys) last now feed' a c
 reached_both {bytes} {from} {xs} {ys} {now = now} {feed' = feed'} {c = c} first second = record {

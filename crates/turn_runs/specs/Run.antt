@@ -39,6 +39,10 @@ log_acts logs events = append_acts logs.trace (trace_lines events)
 abbrev pub turn_acts : Logs → MachineState → Turned → List Act
 turn_acts logs m t = ReadTo (m.taken + 1) ∷ (send_acts t.console ++ log_acts logs t.events)
 
+-- nothing is logged
+abbrev pub no_logs : Logs
+no_logs = record { trace = None }
+
 -- ---- a run
 
 -- a machine that has run: what the run did to the outside, the turns made, and how the last of them ended

@@ -14,4 +14,4 @@ mod turns;
 pub use feed::Feed;
 pub use laws::cut_in_turn;
 pub use resuming::resume;
-pub use running::{Ran, run};
+pub use running::{Ran, has_ended, run};

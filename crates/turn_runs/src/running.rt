@@ -2,6 +2,7 @@
 
 ghost use Rattle.std.specs.Prelude.{◌≡◌, ◌≢◌, ◌≤◌, ◌+◌, IfErr, IfOk, IsFalse, IsTrue};
 ghost use Rattle.hart_turns.specs.declared.machine.TurnEnd.TheVariants.{Goes};
+ghost use Rattle.hart_turns.specs.Machine.{is_running};
 ghost use Rattle.outside_acts.specs.Acts.{DidCut};
 ghost use Rattle.outside_acts.specs.Calls.{Caused, GoesQuietly};
 ghost use Rattle.turn_runs.specs.Reaching.{HoldsLogs, IsRun, OverInput, log_uses};
@@ -24,7 +25,7 @@ pub struct Ran {
 }
 
 /// Whether a turn ended the run.
-fn has_ended(end: TurnEnd) -> bool
+pub fn has_ended(end: TurnEnd) -> bool
     ensures ended { IsTrue result → end ≢ Goes }
     ensures goes { IsFalse result → end ≡ Goes }
 {
@@ -57,6 +58,8 @@ pub fn run<W: Outside>(
         DidCut stop bytes from (run_of logs.now bytes machine.old.machine turns).acts
         (W.world outside.old) (W.world outside.new))) }
     ensures few { IfOk result (λ ran. ran.made ≤ turns) }
+    ensures takes_few { machine.new.machine.taken ≤ machine.old.machine.taken + turns }
+    ensures running { IsTrue (is_running machine.old.machine) → IsTrue (is_running machine.new.machine) }
     ensures cause { Caused (log_uses logs.now) result (W.world outside.old) (W.world outside.new) }
     ensures calm { W.quiet outside.old → HoldsLogs logs.now (W.world outside.old) →
         GoesQuietly (W.quiet outside.new) result }

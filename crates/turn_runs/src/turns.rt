@@ -1,7 +1,8 @@
 //! One turn of a run: the input, the steps, the console and the logs.
 
-ghost use Rattle.std.specs.Prelude.{◌≡◌, ◌<◌, ◌≤◌, ◌+◌, ◌++◌, ◌∷◌, [], All, IfErr, IfOk, OnOk};
+ghost use Rattle.std.specs.Prelude.{◌≡◌, ◌<◌, ◌≤◌, ◌+◌, ◌++◌, ◌∷◌, [], All, IfErr, IfOk, IsTrue, OnOk};
 ghost use Rattle.hart_step.specs.Events.{IsEvent};
+ghost use Rattle.hart_turns.specs.Machine.{is_running};
 ghost use Rattle.outside_acts.specs.Acts.{DidCut, ReadTo};
 ghost use Rattle.outside_acts.specs.Calls.{Caused, Does, GoesQuietly, Only, Stops};
 ghost use Rattle.outside_acts.specs.World.{Console, TheInput};
@@ -32,11 +33,13 @@ fn make_turn<W: Outside>(
     ensures cause { Caused (Only TheInput) result (W.world outside.old) (W.world outside.new) }
     ensures calm { W.quiet outside.old → GoesQuietly (W.quiet outside.new) result }
     ensures takes_one { machine.new.machine.taken ≤ machine.old.machine.taken + 1 }
+    ensures running { IsTrue (is_running machine.old.machine) → IsTrue (is_running machine.new.machine) }
 {
     match feed.fill(outside) {
         Ok(()) => {}
         Err(stop) => return Err(stop),
     }
+    machine.see_fit();
     let before = machine.taken();
     let end = machine.turn(feed.byte);
     feed.offered(machine.taken() != before);
@@ -117,6 +120,7 @@ pub(crate) fn run_turn<W: Outside>(
     ensures calm { W.quiet outside.old → HoldsLogs logs.now (W.world outside.old) →
         GoesQuietly (W.quiet outside.new) result }
     ensures takes_one { machine.new.machine.taken ≤ machine.old.machine.taken + 1 }
+    ensures running { IsTrue (is_running machine.old.machine) → IsTrue (is_running machine.new.machine) }
 {
     let end = match make_turn(machine, feed, outside) {
         Ok(end) => end,

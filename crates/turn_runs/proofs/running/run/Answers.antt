@@ -8,6 +8,7 @@ pub loop-made-init : goal.loop-made-init
 loop-made-init g c = record {
   stands = λ bytes from fed. run_first _ fed;
   taken = omega arith;
+  running = λ runs. runs;
   count = none_passed _;
   same = refl;
   told = λ some. some;
@@ -35,6 +36,7 @@ loop-made-preserved g c =
     let cause = c.in-Ok.ensures.cause in
     let taken = before.taken in
     let takes_one = c.run_turn.ensures.takes_one in
+    let running = c.run_turn.ensures.running in
     let goes = c.has_ended.ensures.goes c.if-has_ended.false in
     record {
       stands = λ bytes from fed.
@@ -42,6 +44,7 @@ loop-made-preserved g c =
           let shown = c.in-Ok.ensures.shown bytes _ stands.reached.fed in
           goes_at goes (run_step _ bytes from _ c.loop-made.made stands shown);
       taken = omega (arith, taken, takes_one);
+      running = λ runs. running (before.running runs);
       count = none_passed_both before.count cause.count;
       same = cause.same ∙ before.same;
       told = λ some. cause.told (before.told some);

@@ -1,6 +1,7 @@
 use Rattle.std.proofs.Common.{◌≡◌, ◌≤◌, ◌+◌, ℕ, List}
-use Rattle.std.specs.Prelude.{IsSome}
+use Rattle.std.specs.Prelude.{IsSome, IsTrue}
 use Rattle.hart_turns.specs.declared.machine.TurnEnd.TheVariants.{Goes}
+use Rattle.hart_turns.specs.Machine.{is_running}
 use Rattle.outside_io.specs.Content.{IsHeld}
 use Rattle.outside_acts.specs.World.{NonePassedOver, World}
 use Rattle.turn_runs.specs.Reaching.{HoldsLogs, IsRun, OverInput}
@@ -16,6 +17,7 @@ invariant-loop-made g l =
       stands : OverInput l.fn.machine.machine l.fn.feed before (λ bytes from.
           IsRun bytes from (run l.logs bytes l.fn.machine.machine l.made) l.machine.machine l.made Goes l.feed before now);
       taken : l.machine.machine.taken ≤ l.fn.machine.machine.taken + l.made;
+      running : IsTrue (is_running l.fn.machine.machine) → IsTrue (is_running l.machine.machine);
       count : NonePassedOver before.counts now.counts;
       same : now.objects ≡ before.objects;
       told : IsSome before.held → IsSome now.held;

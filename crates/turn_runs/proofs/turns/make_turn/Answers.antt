@@ -1,5 +1,6 @@
 -- The turn was made, or the input failed.
-use Rattle.turn_runs.proofs.OneTurn.{turn_made, turn_unread}
+use Rattle.hart_turns.proofs.Fits.{turns_stay_running_lem}
+use Rattle.turn_runs.proofs.OneTurn.{runs_still, turn_made, turn_unread}
 use Rattle.turn_runs.proofs.turns.make_turn.Goals as goal
 
 pub returns-in-Err-clause-cut : goal.returns-in-Err-clause-cut
@@ -18,3 +19,7 @@ returns-clause-turned g c = λ bytes from fed.
       most = turn.at_most_one;
     })
     (cc (c.taken.ensures, c.taken-before.ensures)) c.offered.ensures.byte c.offered.ensures.ended
+
+pub returns-clause-running : goal.returns-clause-running
+returns-clause-running g c = λ runs.
+    runs_still c.turn-end.ensures.machine (turns_stay_running_lem _ _ c.see_fit.ensures runs)
