@@ -1,0 +1,4 @@
+pub mod Saving
+pub mod Reaching
+pub mod Leaves
+pub mod Laws
