@@ -1,22 +1,22 @@
 -- From the status before the report to the one that is answered.
-use Rattle.std.proofs.Common.{◌≡◌, ℕ, List, [], length, take, Option, Some, None, Result, Ok, Err, refl, sym, ap, subst, ◌∙◌, inl, inr, arith}
+use Rattle.std.proofs.Common.{◌≡◌, ℕ, List, [], ◌++◌, length, take, Option, Some, None, Result, Ok, Err, refl, sym, ap, subst, ◌∙◌, inl, inr, arith}
 use Rattle.std.proofs.lemmas.List.{take_all}
 use Rattle.std.specs.Io.KnownBytes.{Appends}
 use Rattle.outside_io.specs.Causes.{Rose}
 use Rattle.outside_io.specs.Content.{Held}
 use Rattle.job_words.specs.Job.{Job, Work}
 use Rattle.outside_acts.specs.declared.Stop.{Stop}
-use Rattle.outside_acts.specs.Acts.{Did, sent}
+use Rattle.outside_acts.specs.Acts.{Act, Did, sent}
 use Rattle.outside_acts.specs.World.{Counted, Reading, Writing, TheInput, Console, Counts, NonePassedOver, World}
 use Rattle.outside_acts.proofs.Algebra.{front_written, sent_none}
 use Rattle.machine_start.proofs.Telling.{told_map}
 use Rattle.dromajo.specs.declared.status.Status.{Status}
-use Rattle.dromajo.specs.declared.status.Status.TheVariants.{Done, Usage, BadConfig, BadElf, BadCheckpoint, BootFault, ReadFault, WriteFault, NoMemory, GuestEnded, BadHostWord}
+use Rattle.dromajo.specs.declared.status.Status.TheVariants.{Done, Usage, BadConfig, BadElf, BadCheckpoint, BootFault, ReadFault, WriteFault, NoMemory, GuestEnded, BadHostWord, Disagree, BadLine, TooMany}
 use Rattle.dromajo.specs.declared.status.Which.TheVariants.{Files, Input, Out, Report}
 use Rattle.dromajo.specs.Classes.{Class, Refused, Ended, Failed, Unreported, Starved, Never, IsBefore, IsFinished, IsRefusal, IsSettled, IsUsage, before_by, caused, class_of, fails, finishes, settles}
-use Rattle.dromajo.specs.Jobs.{Begun, IsBegunOutcome, IsOutcome, Outcome, after_acts, begun, ended}
-use Rattle.dromajo.proofs.Jobs.{some_work}
-use Rattle.dromajo.specs.TopCall.{AnswersRefusal, DidOutcome, HasCause, HasJobCause, JobEnds, JobLeaves, JobStops, Leaves, SendsFront, SentFront, cause_by, leaves_by}
+use Rattle.dromajo.specs.Jobs.{Begun, IsActs, IsBegunActs, begun}
+use Rattle.dromajo.proofs.Works.{some_work}
+use Rattle.dromajo.specs.TopCall.{AnswersRefusal, DidOutcome, HasCause, HasJobCause, JobEnds, JobLeaves, JobStops, Leaves, Reporting, SendsFront, SentFront, cause_by, leaves_by}
 
 -- ---- the one status of a class
 
@@ -38,6 +38,9 @@ is_unreported (WriteFault Report) is = refl
 is_unreported NoMemory is = cc
 is_unreported (GuestEnded code turn) is = cc
 is_unreported (BadHostWord word turn) is = cc
+is_unreported (Disagree n field allowed given) is = cc
+is_unreported (BadLine n column) is = cc
+is_unreported (TooMany most) is = cc
 
 pub is_starved : (status : Status) → class_of status ≡ Starved → status ≡ NoMemory
 is_starved Done is = cc
@@ -57,6 +60,9 @@ is_starved (WriteFault Report) is = cc
 is_starved NoMemory is = refl
 is_starved (GuestEnded code turn) is = cc
 is_starved (BadHostWord word turn) is = cc
+is_starved (Disagree n field allowed given) is = cc
+is_starved (BadLine n column) is = cc
+is_starved (TooMany most) is = cc
 
 -- ---- a finished call
 
@@ -85,6 +91,7 @@ did_outcome job held input before answered line a b same ends = record {
   is = ends.is;
   status = subst (λ (s : Status). IsBefore s answered) ends.status_is same;
   did = ends.did;
+  sound = ends.sound;
 }
 
 pub finished_leaves : (job : Option Job) (before answered : Status) (line : List ℕ) (a b : World) → IsFinished answered → IsBefore before answered → JobLeaves job before line a b → Leaves job answered a b
@@ -93,23 +100,23 @@ finished_leaves job before answered line a b finished same left =
 
 -- ---- the console
 
-some_begun : (work : Work) (input : List ℕ) (begun : Result Begun Status) → (outcome : Outcome) × IsBegunOutcome work input begun outcome
-some_begun work input (Err status) = (ended status 0 0 [], refl)
+some_begun : (work : Work) (input : List ℕ) (begun : Result Begun Status) → (acts : List Act) × IsBegunActs work input begun acts
+some_begun work input (Err status) = ([], refl)
 some_begun work input (Ok b) =
     let some = some_work work b.machine input in
-    (after_acts b.acts some.0, (some.0, some.1, refl))
+    (b.acts ++ some.0, (some.0, some.1, refl))
 
--- a job may come to some outcome
-some_outcome : (job : Option Job) (held : Held) (input : List ℕ) → (outcome : Outcome) × IsOutcome job held input outcome
-some_outcome None held input = (ended Usage 0 0 [], refl)
-some_outcome (Some job) held input = some_begun job.work input (begun held job.begin)
+-- a job has some acts
+some_acts : (job : Option Job) (held : Held) (input : List ℕ) → (acts : List Act) × IsActs job held input acts
+some_acts None held input = ([], refl)
+some_acts (Some job) held input = some_begun job.work input (begun held job.begin)
 
 whole_front : (job : Option Job) (held : Held) (input : List ℕ) (status : Status) (line : List ℕ) (a b : World) → JobEnds job held input status line a b → SentFront job held input a b
 whole_front job held input status line a b ends =
     let all : take (length (sent ends.outcome.acts)) (sent ends.outcome.acts) ≡ sent ends.outcome.acts = take_all (length (sent ends.outcome.acts)) (sent ends.outcome.acts) (omega arith) in
     record {
-      outcome = ends.outcome;
-      is = ends.is;
+      acts = ends.outcome.acts;
+      are = inl (ends.outcome, ends.is, refl);
       count = length (sent ends.outcome.acts);
       console = subst (λ (zs : List ℕ). Appends a.written b.written zs) (sym all) ends.did.console;
     }
@@ -117,12 +124,12 @@ whole_front job held input status line a b ends =
 cut_front : (why : Stop) (job : Option Job) (held : Held) (input : List ℕ) (a b : World) → JobStops why job held input a b → SentFront job held input a b
 cut_front why job held input a b stops =
     let front = front_written stops.cut in
-    record { outcome = stops.outcome; is = stops.is; count = front.0; console = front.1 }
+    record { acts = stops.acts; are = inr stops.are; count = front.0; console = front.1 }
 
 no_front : (job : Option Job) (held : Held) (input : List ℕ) (a b : World) → Did input 0 [] a b → SentFront job held input a b
 no_front job held input a b did =
-    let some = some_outcome job held input in
-    record { outcome = some.0; is = some.1; count = 0; console = subst (λ (zs : List ℕ). Appends a.written b.written zs) sent_none did.console }
+    let some = some_acts job held input in
+    record { acts = some.0; are = inr some.1; count = 0; console = subst (λ (zs : List ℕ). Appends a.written b.written zs) sent_none did.console }
 
 front_by : (class : Class) (job : Option Job) (held : Held) (input : List ℕ) (status : Status) (line : List ℕ) (a b : World) → leaves_by class job held input status line a b → SentFront job held input a b
 front_by Refused job held input status line a b left = whole_front job held input status line a b left
@@ -182,7 +189,7 @@ unfailed_none Unreported Uses a b unfailed cause = absurd cause
 unfailed_none Starved Uses a b unfailed cause = cause
 unfailed_none Never Uses a b unfailed cause = absurd cause
 
-cause_by_class : (class : Class) (before answered : Status) (job : Option Job) (a b : Counts) (report report' : ℕ) → class ≡ class_of answered → before_by class before answered → HasJobCause before job a b → (answered ≡ WriteFault Report → Rose report report') → cause_by class answered job a b report report'
+cause_by_class : (class : Class) (before answered : Status) (job : Option Job) (a b : World) (report report' : Reporting) → class ≡ class_of answered → before_by class before answered → HasJobCause before job a b → (answered ≡ WriteFault Report → Rose report.faults report'.faults) → cause_by class answered job a b report report'
 cause_by_class Refused before answered job a b report report' is same cause rose = subst (λ (s : Status). HasJobCause s job a b) same cause
 cause_by_class Ended before answered job a b report report' is same cause rose = subst (λ (s : Status). HasJobCause s job a b) same cause
 cause_by_class (Failed counted) before answered job a b report report' is same cause rose = subst (λ (s : Status). HasJobCause s job a b) same cause
@@ -190,7 +197,7 @@ cause_by_class Unreported before answered job a b report report' is same cause r
 cause_by_class Starved before answered job a b report report' is same cause rose = tt
 cause_by_class Never before answered job a b report report' is same cause rose = subst (λ (s : Status). HasJobCause s job a b) same cause
 
-pub answered_cause : (before answered : Status) (job : Option Job) (a b : Counts) (report report' : ℕ) → IsBefore before answered → HasJobCause before job a b → (answered ≡ WriteFault Report → Rose report report') → HasCause answered job a b report report'
+pub answered_cause : (before answered : Status) (job : Option Job) (a b : World) (report report' : Reporting) → IsBefore before answered → HasJobCause before job a b → (answered ≡ WriteFault Report → Rose report.faults report'.faults) → HasCause answered job a b report report'
 answered_cause before answered job a b report report' same cause rose = cause_by_class (class_of answered) before answered job a b report report' refl same cause rose
 
 usage_by_class : (class : Class) (answered : Status) → class ≡ class_of answered → before_by class Usage answered → IsUsage answered

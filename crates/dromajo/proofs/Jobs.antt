@@ -1,25 +1,24 @@
 -- A job: its beginning, and then its work, over files, an input and a console that stand apart.
 use Rattle.std.proofs.Common.{◌≡◌, ℕ, List, [], Option, Some, None, Result, Ok, Err, IfSome, refl, sym, ap, subst, ◌∙◌, inl, inr}
 use Rattle.outside_io.specs.Content.{Held, Told}
-use Rattle.hart_turns.specs.Machine.{MachineState, MachineView}
-use Rattle.job_words.specs.Job.{Job, Turns, Work}
+use Rattle.hart_turns.specs.Machine.{MachineView}
+use Rattle.job_words.specs.Job.{Job}
 use Rattle.outside_acts.specs.declared.Stop.{Stop}
 use Rattle.outside_acts.specs.declared.Stop.TheVariants as stop
-use Rattle.outside_acts.specs.Acts.{Did, DidCut, read}
+use Rattle.outside_acts.specs.Acts.{Did}
 use Rattle.outside_acts.specs.World.{Reading, Writing, TheInput, Console, World}
-use Rattle.outside_acts.proofs.Algebra.{did_both, did_cut_later, did_cut_sooner, did_none}
+use Rattle.outside_acts.proofs.Algebra.{did_none}
 use Rattle.outside_acts.proofs.Apart.{did_apart, did_cut_apart}
-use Rattle.turn_runs.specs.declared.feed.Feed.{Feed}
-use Rattle.turn_runs.specs.Reaching.{OverInput}
-use Rattle.turn_runs.specs.Resuming.{HasResumed, resume_acts}
 use Rattle.dromajo.specs.declared.status.Status.{Status}
 use Rattle.dromajo.specs.declared.status.Status.TheVariants.{Usage}
+use Rattle.dromajo.specs.declared.status.Tally.{Tally}
+use Rattle.dromajo.specs.declared.status.Tally.TheVariants.{Turned}
 use Rattle.dromajo.specs.declared.work.Finished.{Finished}
 use Rattle.dromajo.specs.Classes.{Class, Refused, Ended, Failed, Unreported, Starved, Never, class_of, settles, stop_status}
-use Rattle.dromajo.specs.Jobs.{Begun, IsBegunOutcome, IsOutcome, IsWorkOutcome, Outcome, after_acts, begun, ended}
+use Rattle.dromajo.specs.Jobs.{Begun, IsBegunActs, IsBegunOutcome, IsOutcome, Outcome, begun, refused}
 use Rattle.dromajo.specs.Report.{report_line}
 use Rattle.dromajo.specs.TopCall.{JobEnds, JobLeaves, JobStops, leaves_by}
-use Rattle.dromajo.specs.Works.{IsUnbegun, WorkEnds, WorkStops, begun_with, unbegun_by}
+use Rattle.dromajo.specs.Works.{BegunEnds, BegunStops, IsUnbegun, OverLeft, begun_with, unbegun_by}
 
 -- ---- what is told
 
@@ -55,50 +54,27 @@ leaves_stopped stop.NoMemory job held input line a b stops = inr stops
 
 -- ---- the work of a machine that was begun
 
-begun_outcome : (job : Job) (held : Held) (input : List ℕ) (b : Begun) (of_work : Outcome) → begun held job.begin ≡ Ok b → IsWorkOutcome job.work b.machine input of_work → IsOutcome (Some job) held input (after_acts b.acts of_work)
-begun_outcome job held input b of_work is work =
-    subst (λ (r : Result Begun Status). IsBegunOutcome job.work input r (after_acts b.acts of_work)) (sym is) (of_work, work, refl)
+begun_outcome : (job : Job) (held : Held) (input : List ℕ) (b : Begun) (outcome : Outcome) → begun held job.begin ≡ Ok b → IsBegunOutcome job.work input (Ok b) outcome → IsOutcome (Some job) held input outcome
+begun_outcome job held input b outcome is work = subst (λ (r : Result Begun Status). IsBegunOutcome job.work input r outcome) (sym is) work
 
--- a work may come to some outcome
-pub some_work : (work : Work) (m : MachineState) (input : List ℕ) → (outcome : Outcome) × IsWorkOutcome work m input outcome
-some_work (Turns turns logs) m input = (_, refl)
+job_ends : (job : Job) (held : Held) (input : List ℕ) (b : Begun) (last : Finished) (x z : World) → begun held job.begin ≡ Ok b
+    → BegunEnds job.work b last input x z → JobEnds (Some job) held input last.status (report_line last.status last.tally) x z
+job_ends job held input b last x z is ends = record {
+  outcome = ends.outcome;
+  is = begun_outcome job held input b ends.outcome is ends.is;
+  status_is = ends.status_is;
+  line_is = ends.line_is;
+  did = ends.did;
+  sound = ends.sound;
+}
 
--- the machine took up its run, and its work ended
-pub job_ends : (job : Job) (held : Held) (input : List ℕ) (m : MachineView) (last : Finished) (feed : Feed) (a b c : World) → begun held job.begin ≡ Ok (begun_with m)
-    → HasResumed input m.console m.machine.taken feed a b → OverInput m.machine feed b (λ bytes from. WorkEnds job.work m.machine last bytes from b c)
-    → JobEnds (Some job) held input last.status (report_line last.status last.turns last.taken) a c
-job_ends job held input m last feed a b c is resumed ends =
-    let worked = ends input (read (resume_acts m.console m.machine.taken) 0) resumed.fed in
-    record {
-      outcome = after_acts (resume_acts m.console m.machine.taken) worked.outcome;
-      is = begun_outcome job held input (begun_with m) worked.outcome is worked.is;
-      status_is = worked.status_is;
-      line_is = worked.line_is;
-      did = did_both resumed.did worked.did;
-    }
-
--- or its work was cut
-pub job_stops : (why : Stop) (job : Job) (held : Held) (input : List ℕ) (m : MachineView) (feed : Feed) (a b c : World) → begun held job.begin ≡ Ok (begun_with m)
-    → HasResumed input m.console m.machine.taken feed a b → OverInput m.machine feed b (λ bytes from. WorkStops why job.work m.machine bytes from b c)
-    → JobStops why (Some job) held input a c
-job_stops why job held input m feed a b c is resumed stops =
-    let worked = stops input (read (resume_acts m.console m.machine.taken) 0) resumed.fed in
-    record {
-      outcome = after_acts (resume_acts m.console m.machine.taken) worked.outcome;
-      is = begun_outcome job held input (begun_with m) worked.outcome is worked.is;
-      cut = did_cut_later resumed.did worked.cut;
-    }
-
--- or it was cut before its work
-pub resume_stops : (why : Stop) (job : Job) (held : Held) (input : List ℕ) (m : MachineView) (a b : World) → begun held job.begin ≡ Ok (begun_with m)
-    → DidCut why input 0 (resume_acts m.console m.machine.taken) a b → JobStops why (Some job) held input a b
-resume_stops why job held input m a b is cut =
-    let some = some_work job.work m.machine input in
-    record {
-      outcome = after_acts (resume_acts m.console m.machine.taken) some.0;
-      is = begun_outcome job held input (begun_with m) some.0 is some.1;
-      cut = did_cut_sooner some.0.acts cut;
-    }
+job_stops : (why : Stop) (job : Job) (held : Held) (input : List ℕ) (b : Begun) (x z : World) → begun held job.begin ≡ Ok b
+    → BegunStops why job.work b input x z → JobStops why (Some job) held input x z
+job_stops why job held input b x z is stops = record {
+  acts = stops.acts;
+  are = subst (λ (r : Result Begun Status). IsBegunActs job.work input r stops.acts) (sym is) stops.are;
+  cut = stops.cut;
+}
 
 -- ---- other worlds that tell the same
 
@@ -109,28 +85,30 @@ ends_apart job held input status line a b before now held_is written held' left'
   status_is = ends.status_is;
   line_is = ends.line_is;
   did = did_apart held_is written held' left' written' ends.did;
+  sound = ends.sound;
 }
 
 pub stops_apart : (why : Stop) (job : Option Job) (held : Held) (input : List ℕ) (a b before now : World) → a.held ≡ before.held → a.written ≡ before.written → b.held ≡ now.held → b.left ≡ now.left → b.written ≡ now.written → JobStops why job held input a b → JobStops why job held input before now
 stops_apart why job held input a b before now held_is written held' left' written' stops = record {
-  outcome = stops.outcome;
-  is = stops.is;
+  acts = stops.acts;
+  are = stops.are;
   cut = did_cut_apart held_is written held' left' written' stops.cut;
 }
 
 -- ---- a machine that was not begun
 
-refused_ends : (job : Job) (held : Held) (input : List ℕ) (status : Status) (a b : World) → begun held job.begin ≡ Err status → Did input 0 [] a b → JobEnds (Some job) held input status (report_line status 0 0) a b
+refused_ends : (job : Job) (held : Held) (input : List ℕ) (status : Status) (a b : World) → begun held job.begin ≡ Err status → Did input 0 [] a b → JobEnds (Some job) held input status (report_line status (Turned 0 0)) a b
 refused_ends job held input status a b is did = record {
-  outcome = ended status 0 0 [];
-  is = subst (λ (r : Result Begun Status). IsBegunOutcome job.work input r (ended status 0 0 [])) (sym is) refl;
+  outcome = refused status;
+  is = subst (λ (r : Result Begun Status). IsBegunOutcome job.work input r (refused status)) (sym is) refl;
   status_is = refl;
   line_is = refl;
   did = did;
+  sound = tt;
 }
 
 unbegun_by_class : (class : Class) (job : Job) (held : Held) (input : List ℕ) (status : Status) (told : Option Held) (reads reads' : ℕ) (a b : World) → told ≡ Some held
-    → unbegun_by class (IfSome told (λ files. begun files job.begin ≡ Err status)) reads reads' → Did input 0 [] a b → leaves_by class (Some job) held input status (report_line status 0 0) a b
+    → unbegun_by class (IfSome told (λ files. begun files job.begin ≡ Err status)) reads reads' → Did input 0 [] a b → leaves_by class (Some job) held input status (report_line status (Turned 0 0)) a b
 unbegun_by_class Refused job held input status told reads reads' a b is why did = refused_ends job held input status a b (told_some told held _ is why.0) did
 unbegun_by_class (Failed Reading) job held input status told reads reads' a b is why did = did
 unbegun_by_class (Failed Writing) job held input status told reads reads' a b is why did = absurd why
@@ -142,7 +120,7 @@ unbegun_by_class Unreported job held input status told reads reads' a b is why d
 unbegun_by_class Never job held input status told reads reads' a b is why did = absurd why
 
 pub unbegun_leaves : (job : Job) (held : Held) (input : List ℕ) (status : Status) (told : Option Held) (reads reads' : ℕ) (a b : World) → told ≡ Some held
-    → IsUnbegun status (IfSome told (λ files. begun files job.begin ≡ Err status)) reads reads' → Did input 0 [] a b → leaves_by (class_of status) (Some job) held input status (report_line status 0 0) a b
+    → IsUnbegun status (IfSome told (λ files. begun files job.begin ≡ Err status)) reads reads' → Did input 0 [] a b → leaves_by (class_of status) (Some job) held input status (report_line status (Turned 0 0)) a b
 unbegun_leaves job held input status told reads reads' a b is unbegun did = unbegun_by_class (class_of status) job held input status told reads reads' a b is unbegun.why did
 
 -- ---- what is left of a call
@@ -155,74 +133,54 @@ over_two (Some held) (Some input) Says says = says held input refl refl
 -- ---- what a job leaves, by how it went
 
 -- a line without numbers
-early : (job : Option Job) (held : Held) (input : List ℕ) (status s : Status) (turns taken : ℕ) (a b : World) → s ≡ status → turns ≡ 0 → taken ≡ 0
-    → leaves_by (class_of status) job held input status (report_line status 0 0) a b → leaves_by (class_of s) job held input s (report_line s turns taken) a b
-early job held input status s turns taken a b is none untaken left =
-    subst (λ (x : Status). leaves_by (class_of x) job held input x (report_line x turns taken) a b) (sym is)
-    (subst (λ (n : ℕ). leaves_by (class_of status) job held input status (report_line status n taken) a b) (sym none)
-    (subst (λ (n : ℕ). leaves_by (class_of status) job held input status (report_line status 0 n) a b) (sym untaken) left))
+early : (job : Option Job) (held : Held) (input : List ℕ) (status s : Status) (tally : Tally) (a b : World) → s ≡ status → tally ≡ Turned 0 0
+    → leaves_by (class_of status) job held input status (report_line status (Turned 0 0)) a b → leaves_by (class_of s) job held input s (report_line s tally) a b
+early job held input status s tally a b is none left =
+    subst (λ (x : Status). leaves_by (class_of x) job held input x (report_line x tally) a b) (sym is)
+    (subst (λ (t : Tally). leaves_by (class_of status) job held input status (report_line status t) a b) (sym none) left)
 
 -- the words name none
-pub no_job : (job : Option Job) (s : Status) (turns taken : ℕ) (a : World) → None ≡ job → s ≡ Usage → turns ≡ 0 → taken ≡ 0 → JobLeaves job s (report_line s turns taken) a a
-no_job job s turns taken a none is unmade untaken = over_two a.held a.left (λ held input. leaves_by (class_of s) job held input s (report_line s turns taken) a a) (λ held input h l.
-    early job held input Usage s turns taken a a is unmade untaken (record {
-      outcome = ended Usage 0 0 [];
-      is = subst (λ (j : Option Job). IsOutcome j held input (ended Usage 0 0 [])) none refl;
+pub no_job : (job : Option Job) (s : Status) (tally : Tally) (a : World) → None ≡ job → s ≡ Usage → tally ≡ Turned 0 0 → JobLeaves job s (report_line s tally) a a
+no_job job s tally a none is unmade = over_two a.held a.left (λ held input. leaves_by (class_of s) job held input s (report_line s tally) a a) (λ held input h l.
+    early job held input Usage s tally a a is unmade (record {
+      outcome = refused Usage;
+      is = subst (λ (j : Option Job). IsOutcome j held input (refused Usage)) none refl;
       status_is = refl;
       line_is = refl;
       did = did_nothing input a a l refl refl refl;
+      sound = tt;
     }))
 
 -- its machine was not begun: `a` and `b` are the worlds before and after
-pub unbegun_job : (job : Job) (status s : Status) (turns taken reads reads' : ℕ) (a b : World) → s ≡ status → turns ≡ 0 → taken ≡ 0
+pub unbegun_job : (job : Job) (status s : Status) (tally : Tally) (reads reads' : ℕ) (a b : World) → s ≡ status → tally ≡ Turned 0 0
     → Told a.held b.held (λ x y. y ≡ x) → b.left ≡ a.left → b.written ≡ a.written
-    → IsUnbegun status (IfSome a.held (λ files. begun files job.begin ≡ Err status)) reads reads' → JobLeaves (Some job) s (report_line s turns taken) a b
-unbegun_job job status s turns taken reads reads' a b is unmade untaken told left written unbegun =
-    over_two a.held a.left (λ held input. leaves_by (class_of s) (Some job) held input s (report_line s turns taken) a b) (λ held input h l.
-    early (Some job) held input status s turns taken a b is unmade untaken
+    → IsUnbegun status (IfSome a.held (λ files. begun files job.begin ≡ Err status)) reads reads' → JobLeaves (Some job) s (report_line s tally) a b
+unbegun_job job status s tally reads reads' a b is unmade told left written unbegun =
+    over_two a.held a.left (λ held input. leaves_by (class_of s) (Some job) held input s (report_line s tally) a b) (λ held input h l.
+    early (Some job) held input status s tally a b is unmade
     (unbegun_leaves job held input status a.held reads reads' a b h unbegun (did_nothing input a b l (held_same a.held b.held held h told) left written)))
 
--- its work ended: `x` and `z` are the worlds between which it was done, and in `y` it took up its run
-pub ended_job : (job : Job) (m : MachineView) (finished : Finished) (feed : Feed) (a x y z b : World)
+-- its work ended: `x` and `z` are the worlds between which it was done
+pub ended_job : (job : Job) (m : MachineView) (finished : Finished) (a x z b : World)
     → IfSome a.held (λ files. begun files job.begin ≡ Ok (begun_with m))
     → Told a.held x.held (λ h h'. h' ≡ h) → x.left ≡ a.left → x.written ≡ a.written → z.held ≡ b.held → z.left ≡ b.left → z.written ≡ b.written
-    → ((input : List ℕ) → x.left ≡ Some input → HasResumed input m.console m.machine.taken feed x y)
-    → class_of finished.status ≡ Ended → OverInput m.machine feed y (λ input from. WorkEnds job.work m.machine finished input from y z)
-    → JobLeaves (Some job) finished.status (report_line finished.status finished.turns finished.taken) a b
-ended_job job m finished feed a x y z b began told left written held' left' written' resumed class ends =
-    over_two a.held a.left (λ held input. leaves_by (class_of finished.status) (Some job) held input finished.status (report_line finished.status finished.turns finished.taken) a b) (λ held input h l.
-    leaves_settled (class_of finished.status) (Some job) held input finished.status (report_line finished.status finished.turns finished.taken) a b (subst settles (sym class) tt)
-    (ends_apart (Some job) held input finished.status (report_line finished.status finished.turns finished.taken) x z a b (held_same a.held x.held held h told) written held' left' written'
-    (job_ends job held input m finished feed x y z (told_some a.held held (λ files. begun files job.begin ≡ Ok (begun_with m)) h began) (resumed input (left ∙ l)) ends)))
+    → class_of finished.status ≡ Ended → OverLeft x (λ input. BegunEnds job.work (begun_with m) finished input x z)
+    → JobLeaves (Some job) finished.status (report_line finished.status finished.tally) a b
+ended_job job m finished a x z b began told left written held' left' written' class ends =
+    over_two a.held a.left (λ held input. leaves_by (class_of finished.status) (Some job) held input finished.status (report_line finished.status finished.tally) a b) (λ held input h l.
+    leaves_settled (class_of finished.status) (Some job) held input finished.status (report_line finished.status finished.tally) a b (subst settles (sym class) tt)
+    (ends_apart (Some job) held input finished.status (report_line finished.status finished.tally) x z a b (held_same a.held x.held held h told) written held' left' written'
+    (job_ends job held input (begun_with m) finished x z (told_some a.held held (λ files. begun files job.begin ≡ Ok (begun_with m)) h began) (ends input (left ∙ l)))))
 
--- a job that was cut, where `stops` says what it was to come to
-stopped : (why : Stop) (job : Job) (m : MachineView) (s : Status) (turns taken : ℕ) (a x z b : World)
+-- or was cut
+pub stopped_job : (why : Stop) (job : Job) (m : MachineView) (s : Status) (tally : Tally) (a x z b : World)
     → IfSome a.held (λ files. begun files job.begin ≡ Ok (begun_with m))
     → Told a.held x.held (λ h h'. h' ≡ h) → x.left ≡ a.left → x.written ≡ a.written → z.held ≡ b.held → z.left ≡ b.left → z.written ≡ b.written
-    → s ≡ stop_status why → ((held : Held) (input : List ℕ) → begun held job.begin ≡ Ok (begun_with m) → x.left ≡ Some input → JobStops why (Some job) held input x z)
-    → JobLeaves (Some job) s (report_line s turns taken) a b
-stopped why job m s turns taken a x z b began told left written held' left' written' is stops =
-    over_two a.held a.left (λ held input. leaves_by (class_of s) (Some job) held input s (report_line s turns taken) a b) (λ held input h l.
-    subst (λ (z : Status). leaves_by (class_of z) (Some job) held input z (report_line s turns taken) a b) (sym is)
-    (leaves_stopped why (Some job) held input (report_line s turns taken) a b
+    → s ≡ stop_status why → OverLeft x (λ input. BegunStops why job.work (begun_with m) input x z)
+    → JobLeaves (Some job) s (report_line s tally) a b
+stopped_job why job m s tally a x z b began told left written held' left' written' is stops =
+    over_two a.held a.left (λ held input. leaves_by (class_of s) (Some job) held input s (report_line s tally) a b) (λ held input h l.
+    subst (λ (y : Status). leaves_by (class_of y) (Some job) held input y (report_line s tally) a b) (sym is)
+    (leaves_stopped why (Some job) held input (report_line s tally) a b
     (stops_apart why (Some job) held input x z a b (held_same a.held x.held held h told) written held' left' written'
-    (stops held input (told_some a.held held (λ files. begun files job.begin ≡ Ok (begun_with m)) h began) (left ∙ l)))))
-
--- its work was cut
-pub stopped_job : (why : Stop) (job : Job) (m : MachineView) (s : Status) (turns taken : ℕ) (feed : Feed) (a x y z b : World)
-    → IfSome a.held (λ files. begun files job.begin ≡ Ok (begun_with m))
-    → Told a.held x.held (λ h h'. h' ≡ h) → x.left ≡ a.left → x.written ≡ a.written → z.held ≡ b.held → z.left ≡ b.left → z.written ≡ b.written
-    → ((input : List ℕ) → x.left ≡ Some input → HasResumed input m.console m.machine.taken feed x y)
-    → s ≡ stop_status why → OverInput m.machine feed y (λ input from. WorkStops why job.work m.machine input from y z)
-    → JobLeaves (Some job) s (report_line s turns taken) a b
-stopped_job why job m s turns taken feed a x y z b began told left written held' left' written' resumed is stops =
-    stopped why job m s turns taken a x z b began told left written held' left' written' is (λ held input has l. job_stops why job held input m feed x y z has (resumed input l) stops)
-
--- it was cut before its work
-pub unresumed_job : (why : Stop) (job : Job) (m : MachineView) (s : Status) (turns taken : ℕ) (a x y b : World)
-    → IfSome a.held (λ files. begun files job.begin ≡ Ok (begun_with m))
-    → Told a.held x.held (λ h h'. h' ≡ h) → x.left ≡ a.left → x.written ≡ a.written → y.held ≡ b.held → y.left ≡ b.left → y.written ≡ b.written
-    → s ≡ stop_status why → ((input : List ℕ) → x.left ≡ Some input → DidCut why input 0 (resume_acts m.console m.machine.taken) x y)
-    → JobLeaves (Some job) s (report_line s turns taken) a b
-unresumed_job why job m s turns taken a x y b began told left written held' left' written' is cut =
-    stopped why job m s turns taken a x y b began told left written held' left' written' is (λ held input has l. resume_stops why job held input m x y has (cut input l))
+    (job_stops why job held input (begun_with m) x z (told_some a.held held (λ files. begun files job.begin ≡ Ok (begun_with m)) h began) (stops input (left ∙ l))))))

@@ -9,10 +9,11 @@ use Rattle.outside_acts.specs.declared.Stop.{Stop}
 use Rattle.outside_acts.specs.declared.Stop.TheVariants as stop
 use Rattle.outside_acts.specs.World.{Counted, Reading, Writing, TheInput, Console, Counts, NonePassedOver, OnlyRose}
 use Rattle.dromajo.specs.declared.status.Status.{Status}
-use Rattle.dromajo.specs.declared.status.Status.TheVariants.{Done, Usage, BadConfig, BadElf, BadCheckpoint, BootFault, ReadFault, WriteFault, NoMemory, GuestEnded, BadHostWord}
+use Rattle.dromajo.specs.declared.status.Status.TheVariants.{Done, Usage, BadConfig, BadElf, BadCheckpoint, BootFault, ReadFault, WriteFault, NoMemory, GuestEnded, BadHostWord, Disagree, BadLine, TooMany}
 use Rattle.dromajo.specs.declared.status.Which.{Which}
 use Rattle.dromajo.specs.declared.status.Which.TheVariants.{Files, Input, Out, Report}
 
+-- what a status says of the outside
 pub data Class : Type 0 where
   -- the words, and what the files hold, decide it
   Refused : Class
@@ -27,17 +28,20 @@ pub data Class : Type 0 where
   -- no call answers it
   Never : Class
 
+-- the class of a read that failed: of files, or of the input
 abbrev pub read_class : Which → Class
 read_class Files = Failed Reading
 read_class Input = Failed TheInput
 read_class which = Never
 
+-- the class of a write that failed: of files, of the console, or of the report
 abbrev pub write_class : Which → Class
 write_class Files = Failed Writing
 write_class Out = Failed Console
 write_class Report = Unreported
 write_class Input = Never
 
+-- the class of each status
 abbrev pub class_of : Status → Class
 class_of Done = Ended
 class_of Usage = Refused
@@ -50,18 +54,24 @@ class_of (WriteFault which) = write_class which
 class_of NoMemory = Starved
 class_of (GuestEnded code turn) = Ended
 class_of (BadHostWord word turn) = Ended
+class_of (Disagree n field allowed given) = Ended
+class_of (BadLine n column) = Ended
+class_of (TooMany most) = Ended
 
 -- ---- kinds of classes
 
+-- by this class nothing failed, and memory was found
 abbrev pub settles : Class → Type 0
 settles Refused = ⊤
 settles Ended = ⊤
 settles class = ⊥
 
+-- by this class nothing failed but the report, if anything did, and memory was found
 abbrev pub finishes : Class → Type 0
 finishes Unreported = ⊤
 finishes class = settles class
 
+-- by this class something failed, or no call answers it
 abbrev pub fails : Class → Type 0
 fails Refused = ⊥
 fails Ended = ⊥
@@ -97,6 +107,7 @@ before_by Unreported before answered = before ≡ Done
 before_by Starved before answered = ⊤
 before_by class before answered = before ≡ answered
 
+-- the same, by the status that is answered
 abbrev pub IsBefore : Status → Status → Type 0
 IsBefore before answered = before_by (class_of answered) before answered
 

@@ -1,5 +1,5 @@
 -- The one line that the program reports. Its words and their values are this project's own.
-use Rattle.std.specs.Prelude.{ℕ, List, [], ◌∷◌, ◌++◌, codes, decimal}
+use Rattle.std.specs.Prelude.{ℕ, List, [], ◌∷◌, ◌++◌, Option, Some, None, codes, decimal}
 use Rattle.commit_log.specs.Spelling.{hex}
 use Rattle.sim_config.specs.declared.fault.ConfigFault.{ConfigFault}
 use Rattle.sim_config.specs.declared.fault.ConfigFault.TheVariants as config_fault
@@ -12,22 +12,28 @@ use Rattle.elf_load.specs.declared.fault.ElfField.{ElfField}
 use Rattle.elf_load.specs.declared.fault.ElfField.TheVariants.{Class, Order, Type2, Machine, Phentsize, Entry, Shentsize, Link, Tohost}
 use Rattle.hart_turns.specs.declared.booting.BootFault.{BootFault}
 use Rattle.hart_turns.specs.declared.booting.BootFault.TheVariants.{Trap, Long}
+use Rattle.cosim_check.specs.declared.verdict.Field.{Field}
+use Rattle.cosim_check.specs.declared.verdict.Field.TheVariants as record_field
 use Rattle.image_saver.specs.declared.fault.LoadFault.{LoadFault}
 use Rattle.image_saver.specs.declared.fault.LoadFault.TheVariants as load
 use Rattle.image_saver.specs.declared.fault.Part.{Part}
 use Rattle.image_saver.specs.declared.fault.Part.TheVariants.{Mainram, Bootram}
 use Rattle.dromajo.specs.declared.status.Status.{Status}
-use Rattle.dromajo.specs.declared.status.Status.TheVariants.{Done, Usage, BadConfig, BadElf, BadCheckpoint, ReadFault, WriteFault, NoMemory, GuestEnded, BadHostWord}
+use Rattle.dromajo.specs.declared.status.Status.TheVariants.{Done, Usage, BadConfig, BadElf, BadCheckpoint, ReadFault, WriteFault, NoMemory, GuestEnded, BadHostWord, Disagree, BadLine, TooMany}
 use Rattle.dromajo.specs.declared.status.Status.TheVariants as status
+use Rattle.dromajo.specs.declared.status.Tally.{Tally}
+use Rattle.dromajo.specs.declared.status.Tally.TheVariants.{Turned, Judged}
 use Rattle.dromajo.specs.declared.status.Which.{Which}
 use Rattle.dromajo.specs.declared.status.Which.TheVariants.{Files, Input, Out, Report}
 
+-- the object that failed
 abbrev pub object_name : Which → List ℕ
 object_name Files = codes "files"
 object_name Input = codes "input"
 object_name Out = codes "out"
 object_name Report = codes "report"
 
+-- a field of an ELF file
 abbrev pub field_name : ElfField → List ℕ
 field_name Class = codes "class"
 field_name Order = codes "order"
@@ -61,9 +67,11 @@ text_fault (config_fault.OutOfRange key) = codes "out-of-range " ++ key_name key
 text_fault (config_fault.TooLong len) = codes "too-long " ++ decimal len
 text_fault config_fault.NoMemory = codes "no memory"
 
+-- why a configuration is refused
 abbrev pub config_text : ConfigFault → List ℕ
 config_text fault = codes "config " ++ text_fault fault
 
+-- why a program is refused
 abbrev pub elf_text : ElfFault → List ℕ
 elf_text NotElf = codes "elf not-elf"
 elf_text (WrongKind field) = codes "elf wrong-kind " ++ field_name field
@@ -72,6 +80,7 @@ elf_text (OutsideRam segment) = codes "elf outside-ram " ++ decimal segment
 elf_text (Shrinks segment) = codes "elf shrinks " ++ decimal segment
 elf_text (TooLong len) = codes "elf too-long " ++ decimal len
 
+-- a part of a checkpoint, by the ending of its file
 abbrev pub part_name : Part → List ℕ
 part_name Mainram = codes "mainram"
 part_name Bootram = codes "bootram"
@@ -89,20 +98,56 @@ abbrev pub boot_text : BootFault → List ℕ
 boot_text (Trap hart pc cause) = codes "boot trap hart=" ++ (decimal hart ++ (codes " pc=" ++ (hex 16 pc ++ (codes " cause=" ++ decimal cause))))
 boot_text (Long hart) = codes "boot long hart=" ++ decimal hart
 
--- the text of a status; that of a job that was done has the turns made and the input bytes taken
-abbrev pub status_text : Status → ℕ → ℕ → List ℕ
-status_text Done turns taken = codes "done turns=" ++ (decimal turns ++ (codes " taken=" ++ decimal taken))
-status_text Usage turns taken = codes "usage: dromajo command --name value"
-status_text (BadConfig fault) turns taken = config_text fault
-status_text (BadElf fault) turns taken = elf_text fault
-status_text (BadCheckpoint fault) turns taken = checkpoint_text fault
-status_text (status.BootFault fault) turns taken = boot_text fault
-status_text (ReadFault which) turns taken = codes "read fault " ++ object_name which
-status_text (WriteFault which) turns taken = codes "write fault " ++ object_name which
-status_text NoMemory turns taken = codes "no memory"
-status_text (GuestEnded code turn) turns taken = codes "guest ended code=" ++ (decimal code ++ (codes " turn=" ++ decimal turn))
-status_text (BadHostWord word turn) turns taken = codes "bad host word=" ++ (hex 16 word ++ (codes " turn=" ++ decimal turn))
+-- a field of a record
+abbrev pub record_field_name : Field → List ℕ
+record_field_name record_field.Hart = codes "hart"
+record_field_name record_field.Kind = codes "kind"
+record_field_name record_field.Mode = codes "mode"
+record_field_name record_field.Pc = codes "pc"
+record_field_name record_field.Insn = codes "insn"
+record_field_name record_field.Rd = codes "rd"
+record_field_name record_field.Value = codes "value"
+record_field_name record_field.StoreAt = codes "store-at"
+record_field_name record_field.StoreSize = codes "store-size"
+record_field_name record_field.StoreValue = codes "store-value"
+record_field_name record_field.Device = codes "device"
+record_field_name record_field.Volatile = codes "volatile"
+record_field_name record_field.Cause = codes "cause"
+record_field_name record_field.Tval = codes "tval"
+record_field_name record_field.Host = codes "host"
+
+-- a value of such a field, where it has one
+abbrev pub value_text : Option ℕ → List ℕ
+value_text None = codes "none"
+value_text (Some value) = hex 16 value
+
+-- the first record that is not allowed: the first field that differs, with the value that is allowed and the record's own
+abbrev pub disagree_text : ℕ → Field → Option ℕ → Option ℕ → List ℕ
+disagree_text n field allowed given =
+    codes "disagree record=" ++ (decimal n ++ (codes " field=" ++ (record_field_name field ++ (codes " allowed=" ++ (value_text allowed ++ (codes " given=" ++ value_text given))))))
+
+-- the text of a job that was done
+abbrev pub done_text : Tally → List ℕ
+done_text (Turned turns taken) = codes "done turns=" ++ (decimal turns ++ (codes " taken=" ++ decimal taken))
+done_text (Judged records) = codes "passed records=" ++ decimal records
+
+-- the text of a status; that of a job that was done has what it counted
+abbrev pub status_text : Status → Tally → List ℕ
+status_text Done tally = done_text tally
+status_text Usage tally = codes "usage: dromajo command --name value"
+status_text (BadConfig fault) tally = config_text fault
+status_text (BadElf fault) tally = elf_text fault
+status_text (BadCheckpoint fault) tally = checkpoint_text fault
+status_text (status.BootFault fault) tally = boot_text fault
+status_text (ReadFault which) tally = codes "read fault " ++ object_name which
+status_text (WriteFault which) tally = codes "write fault " ++ object_name which
+status_text NoMemory tally = codes "no memory"
+status_text (GuestEnded code turn) tally = codes "guest ended code=" ++ (decimal code ++ (codes " turn=" ++ decimal turn))
+status_text (BadHostWord word turn) tally = codes "bad host word=" ++ (hex 16 word ++ (codes " turn=" ++ decimal turn))
+status_text (Disagree n field allowed given) tally = disagree_text n field allowed given
+status_text (BadLine n column) tally = codes "bad line record=" ++ (decimal n ++ (codes " column=" ++ decimal column))
+status_text (TooMany most) tally = codes "too many records=" ++ decimal most
 
 -- the line of a status, with its newline
-unfoldable pub report_line : Status → ℕ → ℕ → List ℕ
-report_line status turns taken = status_text status turns taken ++ 10 ∷ []
+unfoldable pub report_line : Status → Tally → List ℕ
+report_line status tally = status_text status tally ++ 10 ∷ []

@@ -1,22 +1,22 @@
 -- How the private calls of a job end: its beginning, and its work.
-use Rattle.std.specs.Prelude.{◌≡◌, ◌≢◌, ℕ, List, IfErr, Result}
+use Rattle.std.specs.Prelude.{◌≡◌, ◌≢◌, ℕ, List, [], IfErr, Ok, Result, Some, ⊤}
 use Rattle.outside_io.specs.Causes.{Rose}
 use Rattle.outside_acts.specs.declared.Stop.{Stop}
-use Rattle.outside_acts.specs.Acts.{Did, DidCut}
 use Rattle.outside_acts.specs.World.{Reading, World}
 use Rattle.sim_config.specs.declared.fault.ConfigFault.{ConfigFault}
 use Rattle.sim_config.specs.declared.fault.ConfigFault.TheVariants as config_fault
 use Rattle.hart_turns.specs.Machine.{MachineState, MachineView}
 use Rattle.image_saver.specs.declared.fault.LoadFault.{LoadFault}
 use Rattle.image_saver.specs.Refusal.{IsOfFiles}
-use Rattle.job_words.specs.Job.{Work}
+use Rattle.job_words.specs.Job.{Begin, FromCheckpoint, Judge, Save, Turns, Work}
 use Rattle.turn_runs.specs.Resuming.{resume_acts}
 use Rattle.dromajo.specs.declared.status.Status.{Status}
 use Rattle.dromajo.specs.declared.status.Status.TheVariants.{BadCheckpoint, BadConfig, Usage}
 use Rattle.dromajo.specs.declared.work.Finished.{Finished}
 use Rattle.dromajo.specs.Classes.{Class, Refused, Failed, Starved, IsFault, class_of}
-use Rattle.dromajo.specs.Jobs.{Begun, IsWorkOutcome, Outcome}
+use Rattle.dromajo.specs.Jobs.{Begun, IsBegunActs, IsBegunOutcome, IsWorkActs, IsWorkOutcome}
 use Rattle.dromajo.specs.Report.{report_line}
+use Rattle.dromajo.specs.TopCall.{Ends, Stops}
 
 -- a machine that was made, with the acts that come before its work
 abbrev pub begun_with : MachineView → Begun
@@ -30,6 +30,7 @@ unbegun_by (Failed Reading) Defined before now = Rose before now
 unbegun_by Starved Defined before now = now ≡ before
 unbegun_by class Defined before now = ⊥
 
+-- a beginning made no machine and ended with this status, and why
 pub record IsUnbegun (status : Status) (Defined : Type 0) (before now : ℕ) : Type 0 where
   pub why : unbegun_by (class_of status) Defined before now
   -- it does not say that the words name no job
@@ -44,16 +45,42 @@ pub record BeginsQuietly {T : Type 0} (quiet_now : Type 0) (result : Result T St
   pub unfailed : IfErr result (λ status. IsFault status → ⊥)
   pub still : quiet_now
 
--- a work ended so: its status, the report's line, and all its acts
-pub record WorkEnds (work : Work) (m : MachineState) (finished : Finished) (input : List ℕ) (from : ℕ) (before now : World) : Type 0 where
-  pub outcome : Outcome
-  pub is : IsWorkOutcome work m input outcome
-  pub status_is : finished.status ≡ outcome.status
-  pub line_is : report_line finished.status finished.turns finished.taken ≡ outcome.line
-  pub did : Did input from outcome.acts before now
+-- a work ended so
+abbrev pub WorkEnds : Work → MachineState → Finished → List ℕ → ℕ → World → World → Type 0
+WorkEnds work m finished input from before now =
+    Ends (IsWorkOutcome work m input) finished.status (report_line finished.status finished.tally) input from before now
 
--- it was cut by this stop
-pub record WorkStops (stop : Stop) (work : Work) (m : MachineState) (input : List ℕ) (from : ℕ) (before now : World) : Type 0 where
-  pub outcome : Outcome
-  pub is : IsWorkOutcome work m input outcome
-  pub cut : DidCut stop input from outcome.acts before now
+-- its acts were cut by this stop
+abbrev pub WorkStops : Stop → Work → MachineState → List ℕ → ℕ → World → World → Type 0
+WorkStops stop work m input from before now = Stops (IsWorkActs work m input) stop input from before now
+
+-- the same with the acts of the beginning before those of the work, from the first byte of the input on
+abbrev pub BegunEnds : Work → Begun → Finished → List ℕ → World → World → Type 0
+BegunEnds work b finished input before now =
+    Ends (IsBegunOutcome work input (Ok b)) finished.status (report_line finished.status finished.tally) input 0 before now
+
+-- the acts of the beginning and of the work were cut by this stop
+abbrev pub BegunStops : Stop → Work → Begun → List ℕ → World → World → Type 0
+BegunStops stop work b input before now = Stops (IsBegunActs work input (Ok b)) stop input 0 before now
+
+-- over an input that is told
+abbrev pub OverLeft : World → (List ℕ → Type 0) → Type 0
+OverLeft world Says = (input : List ℕ) → world.left ≡ Some input → Says input
+
+-- ---- machines at reset
+
+-- a machine that has made no turn and was not booted: it has taken nothing, and sent nothing
+pub record IsUnused (m : MachineView) : Type 0 where
+  pub taken : m.machine.taken ≡ 0
+  pub console : m.console ≡ []
+
+-- what is saved or judged begins at reset, not behind a boot
+abbrev pub BeginsWell : Work → MachineView → Type 0
+BeginsWell (Turns turns logs) m = ⊤
+BeginsWell (Save turns name more) m = IsUnused m
+BeginsWell Judge m = IsUnused m
+
+-- a machine that did not begin at a checkpoint has made no turn and was not booted
+abbrev pub IsReset : Begin → MachineView → Type 0
+IsReset (FromCheckpoint name) m = ⊤
+IsReset begin m = IsUnused m

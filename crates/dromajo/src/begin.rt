@@ -1,12 +1,13 @@
 //! Where a machine begins.
 
-ghost use Rattle.std.specs.Prelude.{◌≡◌, ◌≤◌, [], Err, IfErr, IfOk, IfSome, Ok};
+ghost use Rattle.std.specs.Prelude.{◌≡◌, ◌≤◌, [], Err, IfErr, IfOk, IfSome, IsTrue, Ok};
+ghost use Rattle.hart_turns.specs.Machine.{is_running};
 ghost use Rattle.job_words.specs.Job.{FromCheckpoint, FromConfig, FromImage};
 ghost use Rattle.job_words.specs.Seen.{begin_seen};
 ghost use Rattle.machine_start.specs.Reading.{OnlyReads};
 ghost use Rattle.machine_start.specs.Start.{IsStart};
 ghost use Rattle.dromajo.specs.Jobs.{HoldsBegin, begun, machine_of};
-ghost use Rattle.dromajo.specs.Works.{BeginsQuietly, IsUnbegun, begun_with};
+ghost use Rattle.dromajo.specs.Works.{BeginsQuietly, IsReset, IsUnbegun, IsUnused, begun_with};
 
 use crate::status::{Status, load_status, start_status};
 use hart_turns::{Machine, NoMemory};
@@ -19,7 +20,10 @@ use std::alloc::Global;
 /// The machine of a start, at reset.
 fn at_reset(alloc: Global, start: Start) -> Result<Machine, NoMemory>
     requires { IsStart start }
-    ensures { IfOk result (λ machine. machine ≡ record { machine = machine_of start; console = []; events = [] }) }
+    ensures machine { IfOk result (λ machine.
+        machine ≡ record { machine = machine_of start; console = []; events = [] }) }
+    ensures unused { IfOk result IsUnused }
+    ensures running { IfOk result (λ machine. IsTrue (is_running machine.machine)) }
 {
     Machine::reset(alloc, start.shape, start.ram, start.entry)
 }
@@ -32,6 +36,8 @@ fn begin_config<F: Files>(alloc: Global, name: &str, files: &mut F) -> Result<Ma
         (IfSome (F.held files.old) (λ held. begun held (FromConfig name.now) ≡ Err status))
         (F.read_faults files.old) (F.read_faults files.new)) }
     ensures taken { IfOk result (λ machine. machine.machine.taken ≤ 1_000_000_000_000) }
+    ensures running { IfOk result (λ machine. IsTrue (is_running machine.machine)) }
+    ensures unused { IfOk result IsUnused }
     ensures leaves { OnlyReads F.held F.read_faults F.write_faults files.old files.new result }
     ensures calm { F.quiet files.old → HoldsBegin (F.held files.old) (FromConfig name.now) →
         BeginsQuietly (F.quiet files.new) result }
@@ -54,6 +60,8 @@ fn begin_image<F: Files>(alloc: Global, name: &str, files: &mut F) -> Result<Mac
         (IfSome (F.held files.old) (λ held. begun held (FromImage name.now) ≡ Err status))
         (F.read_faults files.old) (F.read_faults files.new)) }
     ensures taken { IfOk result (λ machine. machine.machine.taken ≤ 1_000_000_000_000) }
+    ensures running { IfOk result (λ machine. IsTrue (is_running machine.machine)) }
+    ensures unused { IfOk result IsUnused }
     ensures leaves { OnlyReads F.held F.read_faults F.write_faults files.old files.new result }
     ensures calm { F.quiet files.old → HoldsBegin (F.held files.old) (FromImage name.now) →
         BeginsQuietly (F.quiet files.new) result }
@@ -76,6 +84,7 @@ fn begin_checkpoint<F: Files>(alloc: Global, name: &str, files: &mut F) -> Resul
         (IfSome (F.held files.old) (λ held. begun held (FromCheckpoint name.now) ≡ Err status))
         (F.read_faults files.old) (F.read_faults files.new)) }
     ensures taken { IfOk result (λ machine. machine.machine.taken ≤ 1_000_000_000_000) }
+    ensures running { IfOk result (λ machine. IsTrue (is_running machine.machine)) }
     ensures leaves { OnlyReads F.held F.read_faults F.write_faults files.old files.new result }
     ensures calm { F.quiet files.old → HoldsBegin (F.held files.old) (FromCheckpoint name.now) →
         BeginsQuietly (F.quiet files.new) result }
@@ -107,6 +116,8 @@ pub(crate) fn begin<F: Files>(
         (IfSome (F.held files.old) (λ held. begun held (begin_seen begin.entry) ≡ Err status))
         (F.read_faults files.old) (F.read_faults files.new)) }
     ensures taken { IfOk result (λ machine. machine.machine.taken ≤ 1_000_000_000_000) }
+    ensures running { IfOk result (λ machine. IsTrue (is_running machine.machine)) }
+    ensures reset { IfOk result (IsReset (begin_seen begin.entry)) }
     ensures leaves { OnlyReads F.held F.read_faults F.write_faults files.old files.new result }
     ensures calm { F.quiet files.old → HoldsBegin (F.held files.old) (begin_seen begin.entry) →
         BeginsQuietly (F.quiet files.new) result }

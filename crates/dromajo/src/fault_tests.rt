@@ -4,41 +4,8 @@
 
 use crate::test_files::Content::{Absent, Image, Program, Text, Texts};
 use crate::test_files::File;
-use crate::test_support::{Call, NOTHING, expect_call};
-use std::alloc::Global;
-use std::process::Abort;
+use crate::test_support::{Call, Fault, NOTHING, expect_fault};
 use std::test::Fail;
-
-// The calls of the files, the input, the output and the report that fail, the status's number, the report,
-// the console's bytes, the files after the call, and what the input has left.
-type Fault = (
-    [u64; 4],
-    u8,
-    &'static str,
-    &'static str,
-    &'static [File],
-    &'static str,
-);
-
-// What a failing call leaves.
-fn expect_fault(
-    rt: &impl Abort,
-    alloc: Global,
-    call: Call<'static>,
-    fault: Fault,
-) -> Result<(), Fail> {
-    let (fails, code, report, console, after, left) = fault;
-    let call = Call {
-        fails,
-        code,
-        report,
-        console,
-        after,
-        left: Some(left),
-        ..call
-    };
-    expect_call(rt, alloc, &call)
-}
 
 const FILES_UNREAD: &str = "read fault files\n";
 

@@ -4,20 +4,32 @@
 
 mod begin;
 #[cfg(test)]
+mod boot_roms;
+#[cfg(test)]
+mod cosim_tests;
+#[cfg(test)]
 mod example_images;
 #[cfg(test)]
 mod example_tests;
 #[cfg(test)]
 mod fault_tests;
+mod laws;
 #[cfg(test)]
 mod load_tests;
 #[cfg(test)]
 mod program_tests;
+mod records;
 mod refusals;
 mod report;
 #[cfg(test)]
 mod run_tests;
+#[cfg(test)]
+mod save_fault_tests;
+#[cfg(test)]
+mod save_tests;
 mod status;
+#[cfg(test)]
+mod stream_tests;
 #[cfg(test)]
 mod test_files;
 #[cfg(test)]
@@ -30,8 +42,9 @@ mod word_tests;
 mod work;
 
 pub use job_words::MOST_TURNS;
+pub use laws::{later_equal, own_trace_passes};
 use outside_io::{DirFiles, StdSink, StdSource};
-pub use status::{Status, Which};
+pub use status::{Status, Tally, Which};
 use std::alloc::AllocError;
 use std::fs::File;
 use std::io::ErrorKind;

@@ -68,7 +68,7 @@ fn an_image_sends_a_letter_in_the_first_turn(rt: HostRuntime) -> Result<(), Fail
 }
 
 // Words that name no job.
-static NO_JOBS: [&str; 51] = [
+static NO_JOBS: [&str; 80] = [
     "run --turns 3",
     "run --image a.bin --turns 1 --turns 2",
     "run --image a.bin --turns 01",
@@ -120,6 +120,35 @@ static NO_JOBS: [&str; 51] = [
     "load --name P --turns 1 --trace ",
     "load --name P --turns 1 --more 1",
     "load --config c --turns 1",
+    "run --image a.bin --turns 1 --more 1",
+    "save",
+    "save --config c --turns 1",
+    "save --config c --name P",
+    "save --turns 1 --name P",
+    "save --image a.bin --turns 1 --name P",
+    "save --config c --image a.bin --turns 1 --name P",
+    "save --config c --turns 1 --name P --trace t",
+    "save --config c --turns 1 --name P --more 1 --more 1",
+    "save --config c --turns 1 --name P --name P",
+    "save --config c --turns 1000000001 --name P",
+    "save --config c --turns 01 --name P",
+    "save --config c --turns 1 --name P --more 1000000001",
+    "save --config c --turns 1 --name P --more 00",
+    "save --config c --turns 1 --name P --more ",
+    "save --config c --turns 1 --name P --more",
+    "save --config c --turns 1 --name ",
+    "save --config  --turns 1 --name P",
+    "Save --config c --turns 1 --name P",
+    "cosim",
+    "cosim c",
+    "cosim --config",
+    "cosim --config ",
+    "cosim --config c --turns 1",
+    "cosim --config c --trace t",
+    "cosim --config c --name P",
+    "cosim --config c --config c",
+    "cosim --image a.bin",
+    "cosim --config c --image a.bin",
 ];
 
 // The first call of the files and of the output would fail.

@@ -5,6 +5,7 @@ ghost use Rattle.std.specs.Process.{exit_status};
 ghost use Rattle.dromajo.specs.Classes.{load_status, start_status, stop_status};
 ghost use Rattle.dromajo.specs.Codes.{code_of};
 
+use cosim_check::Field;
 use elf_load::ElfFault;
 use hart_turns::BootFault;
 use image_saver::LoadFault;
@@ -18,7 +19,7 @@ use std::process::ExitCode;
 pub enum Which {
     /// The files that the words and the configuration name.
     Files,
-    /// The console's input.
+    /// The console's input, and in `cosim` the commit stream.
     Input,
     /// The console's output.
     Out,
@@ -29,8 +30,17 @@ pub enum Which {
 /// How a call ended. Each status has a number, with which the program ends.
 #[derive(PartialEq, Eq, Debug, Drop)]
 pub enum Status {
-    /// 0: the job was done; a guest that ended with code 0 is done too.
+    /// 0: the job was done; a guest that ended with code 0 is done too, and so is a stream that was read to
+    /// its end and whose records passed.
     Done,
+    /// 1: record `n` of the stream, counted from 0, is not allowed: this is the first field that differs,
+    /// with the value that is allowed and the record's own.
+    Disagree {
+        n: u64,
+        field: Field,
+        allowed: Option<u64>,
+        given: Option<u64>,
+    },
     /// 2: the words name no job.
     Usage,
     /// 3: the configuration is refused. It never carries `ConfigFault::NoMemory`.
@@ -48,11 +58,34 @@ pub enum Status {
     WriteFault(Which),
     /// 9: there was no memory.
     NoMemory,
-    /// 10: the guest ended the run with this code, which is not 0, in this turn of the call, counted
-    /// from 1.
-    GuestEnded { code: u64, turn: u64 },
+    /// 10: the guest ended the run with this code, in this turn of the call, counted from 1. The code is not
+    /// 0, unless the guest was to be saved and ended before.
+    GuestEnded {
+        code: u64,
+        turn: u64,
+    },
     /// 11: the guest sent the host a word that no host serves, in this turn of the call, counted from 1.
-    BadHostWord { word: u64, turn: u64 },
+    BadHostWord {
+        word: u64,
+        turn: u64,
+    },
+    /// 12: line `n` of the stream, counted from 0, is no record's: `column` is the length of its longest
+    /// front that is the front of one.
+    BadLine {
+        n: u64,
+        column: u16,
+    },
+    /// 14: so many records of the stream passed, which is as many as may, and more follows.
+    TooMany(u64),
+}
+
+/// What a job counted, for its report.
+#[derive(Clone, Copy, PartialEq, Eq, Debug)]
+pub enum Tally {
+    /// The turns made in the call, and the input bytes that its machine has taken.
+    Turned { turns: u64, taken: u64 },
+    /// The records that passed.
+    Judged(u64),
 }
 
 impl Status {
@@ -62,6 +95,7 @@ impl Status {
     {
         match self {
             Status::Done => 0,
+            Status::Disagree { .. } => 1,
             Status::Usage => 2,
             Status::BadConfig(_) => 3,
             Status::BadElf(_) => 4,
@@ -72,6 +106,8 @@ impl Status {
             Status::NoMemory => 9,
             Status::GuestEnded { .. } => 10,
             Status::BadHostWord { .. } => 11,
+            Status::BadLine { .. } => 12,
+            Status::TooMany(_) => 14,
         }
     }
 

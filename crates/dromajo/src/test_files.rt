@@ -35,7 +35,7 @@ pub(crate) fn bytes_of(
         Content::Texts(texts) => joined(alloc, texts)?,
         Content::Bytes(bytes) => Vec::from_slice(alloc, bytes)?,
         Content::Image(words, size) => image_of(alloc, words, size)?,
-        Content::Program(words) => program_of(alloc, words)?,
+        Content::Program(words) => program_of(alloc, &image_of(alloc, words, 0)?)?,
         Content::Elf(change) => Vec::from_slice(alloc, &elf(rt, change))?,
     };
     Ok(Some(bytes))
@@ -79,9 +79,9 @@ static HEADERS: [u64; 12] = [
     0x8000_0000,
 ];
 
-// An ELF file whose one segment is these words at 0x80000000, where it is entered.
-fn program_of(alloc: Global, words: &[u32]) -> Result<Vec<u8>, AllocError> {
-    let size = (words.len() as u64).wrapping_mul(4);
+// An ELF file whose one segment is this image at 0x80000000, where it is entered.
+pub(crate) fn program_of(alloc: Global, image: &[u8]) -> Result<Vec<u8>, AllocError> {
+    let size = image.len() as u64;
     let mut file = Vec::new(alloc);
     for &number in &HEADERS {
         file.extend_from_slice(&number.to_le_bytes())?;
@@ -89,8 +89,7 @@ fn program_of(alloc: Global, words: &[u32]) -> Result<Vec<u8>, AllocError> {
     for number in [size, size, 4] {
         file.extend_from_slice(&number.to_le_bytes())?;
     }
-    let image = image_of(alloc, words, 0)?;
-    file.extend_from_slice(&image)?;
+    file.extend_from_slice(image)?;
     Ok(file)
 }
 

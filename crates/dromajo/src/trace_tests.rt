@@ -202,8 +202,8 @@ fn each_step_has_its_line(rt: HostRuntime) -> Result<(), Fail> {
     Ok(())
 }
 
-// Calls over the file system: the second trace is in a folder that is not there.
-static PATHS: [Call<'static>; 2] = [
+// Calls over the file system: the second trace and the second checkpoint are in a folder that is not there.
+static PATHS: [Call<'static>; 5] = [
     Call {
         line: "run --config c --turns 2 --trace t",
         report: "done turns=2 taken=0\n",
@@ -215,10 +215,36 @@ static PATHS: [Call<'static>; 2] = [
         report: "write fault files\n",
         ..NOTHING
     },
+    Call {
+        line: "save --config c --turns 1 --name P",
+        report: "done turns=1 taken=0\n",
+        ..NOTHING
+    },
+    Call {
+        line: "save --config c --turns 1 --name absent/P",
+        code: 8,
+        report: "write fault files\n",
+        ..NOTHING
+    },
+    Call {
+        line: "load --name P --turns 1 --trace u",
+        report: "done turns=1 taken=0\n",
+        ..NOTHING
+    },
+];
+
+// What the files hold after these calls.
+static WRITTEN: [(&str, &str); 3] = [
+    ("t", NOWHERE_LINES),
+    ("u", "X 0 M 0000000080000004 5 0000000000010000\n"),
+    (
+        "P.json",
+        "{\"harts\":1,\"ram\":65536,\"rom\":440,\"slice\":1,\"taken\":0,\"tohost\":0,\"version\":1}",
+    ),
 ];
 
 #[test]
-fn a_trace_is_written_to_the_file_system(rt: HostRuntime) -> Result<(), Fail> {
+fn files_are_written_to_the_file_system(rt: HostRuntime) -> Result<(), Fail> {
     fs::write(&rt, "c", ONE_STEP)?;
     if let Some(program) = bytes_of(&rt, rt.alloc(), Program(&NOWHERE))? {
         fs::write(&rt, "p.elf", program.as_slice())?;
@@ -227,15 +253,11 @@ fn a_trace_is_written_to_the_file_system(rt: HostRuntime) -> Result<(), Fail> {
         let mut files = DirFiles::new(&rt);
         streams_after(&rt, rt.alloc(), &mut files, call, call.line)?;
     }
-    let trace = fs::read_to_string(&rt, "t")?;
-    same(
-        &rt,
-        &trace.as_str(),
-        &NOWHERE_LINES,
-        "the trace",
-        "in the file system",
-    );
-    for name in ["c", "p.elf", "t"] {
+    for &(name, text) in &WRITTEN {
+        let got = fs::read_to_string(&rt, name)?;
+        same(&rt, &got.as_str(), &text, name, "in the file system");
+    }
+    for name in ["c", "p.elf", "t", "u", "P.json", "P.mainram", "P.bootram"] {
         fs::remove_file(&rt, name)?;
     }
     Ok(())

@@ -2,73 +2,89 @@
 //! put them.
 
 use crate::report::report_line;
-use crate::status::{Status, Which};
+use crate::status::{Status, Tally, Which};
 use crate::test_support::{same, words_of};
+use cosim_check::Field;
 use elf_load::{ElfFault, ElfField};
 use job_words::{Begin, Job, Work, named_job};
 use sim_config::{ConfigFault, Key};
 use std::alloc::{AllocError, Global};
 use std::process::Abort;
 
-// Words, and the beginning, the turns and the trace of the job that they name.
-static JOBS: [(&str, Begin<'static>, u64, Option<&str>); 9] = [
+// A job's beginning, its turns, the file of its trace or the checkpoint that it saves, and the turns after a save.
+type Parts<'a> = (Begin<'a>, Option<u64>, Option<&'a str>, Option<u64>);
+
+// Words, and the job that they name.
+static JOBS: [(&str, Parts<'static>); 15] = [
     (
         "run --image a.bin --turns 1",
-        Begin::Image("a.bin"),
-        1,
-        None,
+        (Begin::Image("a.bin"), Some(1), None, None),
     ),
     (
         "run --turns 1 --image a.bin",
-        Begin::Image("a.bin"),
-        1,
-        None,
+        (Begin::Image("a.bin"), Some(1), None, None),
     ),
-    ("run --config c --turns 0", Begin::Config("c"), 0, None),
+    (
+        "run --config c --turns 0",
+        (Begin::Config("c"), Some(0), None, None),
+    ),
     (
         "run --config c --turns 7 --trace t",
-        Begin::Config("c"),
-        7,
-        Some("t"),
+        (Begin::Config("c"), Some(7), Some("t"), None),
     ),
     (
         "run --trace t --turns 1000000000 --config c",
-        Begin::Config("c"),
-        1_000_000_000,
-        Some("t"),
+        (Begin::Config("c"), Some(1_000_000_000), Some("t"), None),
     ),
     (
         "run --trace e --image e --turns 12345",
-        Begin::Image("e"),
-        12_345,
-        Some("e"),
+        (Begin::Image("e"), Some(12_345), Some("e"), None),
     ),
     (
         "run --image --image --turns 1",
-        Begin::Image("--image"),
-        1,
-        None,
+        (Begin::Image("--image"), Some(1), None, None),
     ),
     (
         "load --name P --turns 3 --trace t",
-        Begin::Checkpoint("P"),
-        3,
-        Some("t"),
+        (Begin::Checkpoint("P"), Some(3), Some("t"), None),
     ),
     (
         "load --turns 0 --name --name",
-        Begin::Checkpoint("--name"),
-        0,
-        None,
+        (Begin::Checkpoint("--name"), Some(0), None, None),
+    ),
+    (
+        "save --config c --turns 10 --name P",
+        (Begin::Config("c"), Some(10), Some("P"), Some(0)),
+    ),
+    (
+        "save --more 2 --name P --turns 0 --config c",
+        (Begin::Config("c"), Some(0), Some("P"), Some(2)),
+    ),
+    (
+        "save --turns 1000000000 --config c --more 1000000000 --name c",
+        (
+            Begin::Config("c"),
+            Some(1_000_000_000),
+            Some("c"),
+            Some(1_000_000_000),
+        ),
+    ),
+    (
+        "save --name --more --more 3 --config --name --turns 4",
+        (Begin::Config("--name"), Some(4), Some("--more"), Some(3)),
+    ),
+    ("cosim --config c", (Begin::Config("c"), None, None, None)),
+    (
+        "cosim --config --config",
+        (Begin::Config("--config"), None, None, None),
     ),
 ];
 
-// A job's beginning, its turns and its trace.
-type Parts<'a> = (Begin<'a>, u64, Option<&'a str>);
-
 fn parts<'a>(job: &Job<'a>) -> Parts<'a> {
     match &job.work {
-        Work::Turns { turns, logs } => (job.begin, *turns, logs.trace()),
+        Work::Turns { turns, logs } => (job.begin, Some(*turns), logs.trace(), None),
+        Work::Save { turns, name, more } => (job.begin, Some(*turns), Some(*name), Some(*more)),
+        Work::Judge => (job.begin, None, None, None),
     }
 }
 
@@ -88,8 +104,8 @@ fn expect_job(
 
 #[test]
 fn words_name_their_job(rt: HostRuntime) -> Result<(), AllocError> {
-    for &(line, begin, turns, trace) in &JOBS {
-        expect_job(&rt, rt.alloc(), line, (begin, turns, trace))?;
+    for &(line, want) in &JOBS {
+        expect_job(&rt, rt.alloc(), line, want)?;
     }
     Ok(())
 }
@@ -138,7 +154,23 @@ static ELF_FAULTS: [(ElfFault, &str); 15] = [
     (ElfFault::TooLong(67_108_865), "elf too-long 67108865"),
 ];
 
-// The status has this number and this line, after 12 turns that took 17 bytes.
+// The status has this number and this line, after what was counted.
+fn expect_after(
+    rt: &impl Abort,
+    alloc: Global,
+    tally: Tally,
+    status: Status,
+    code: u8,
+    text: &str,
+) -> Result<(), AllocError> {
+    same(rt, &status.code(), &code, "the status of", text);
+    let line = report_line(alloc, &status, tally)?;
+    let report = line.as_str().strip_suffix('\n');
+    same(rt, &report, &Some(text), "the report of", text);
+    Ok(())
+}
+
+// The same, after 12 turns that took 17 bytes.
 fn expect(
     rt: &impl Abort,
     alloc: Global,
@@ -146,11 +178,11 @@ fn expect(
     code: u8,
     text: &str,
 ) -> Result<(), AllocError> {
-    same(rt, &status.code(), &code, "the status of", text);
-    let line = report_line(alloc, &status, 12, 17)?;
-    let report = line.as_str().strip_suffix('\n');
-    same(rt, &report, &Some(text), "the report of", text);
-    Ok(())
+    let tally = Tally::Turned {
+        turns: 12,
+        taken: 17,
+    };
+    expect_after(rt, alloc, tally, status, code, text)
 }
 
 // The same, where the text has a name after it.
@@ -230,6 +262,72 @@ fn other_statuses_have_their_number_and_line(rt: HostRuntime) -> Result<(), Allo
     let too_long = Status::BadConfig(ConfigFault::TooLong(65_537));
     expect(&rt, alloc, too_long, 3, "config too-long 65537")?;
     expect(&rt, alloc, Status::NoMemory, 9, "no memory")
+}
+
+// The fields of a record as they are spelled.
+static FIELDS: [(Field, &str); 15] = [
+    (Field::Hart, "hart"),
+    (Field::Kind, "kind"),
+    (Field::Mode, "mode"),
+    (Field::Pc, "pc"),
+    (Field::Insn, "insn"),
+    (Field::Rd, "rd"),
+    (Field::Value, "value"),
+    (Field::StoreAt, "store-at"),
+    (Field::StoreSize, "store-size"),
+    (Field::StoreValue, "store-value"),
+    (Field::Device, "device"),
+    (Field::Volatile, "volatile"),
+    (Field::Cause, "cause"),
+    (Field::Tval, "tval"),
+    (Field::Host, "host"),
+];
+
+// The first field that differs, in a record that has it.
+fn expect_field(
+    rt: &impl Abort,
+    alloc: Global,
+    field: Field,
+    name: &str,
+) -> Result<(), AllocError> {
+    let status = Status::Disagree {
+        n: 999_999_999,
+        field,
+        allowed: None,
+        given: Some(0xfedc_ba98_7654_3210),
+    };
+    let text = format!(in alloc;
+        "disagree record=999999999 field={name} allowed=none given=fedcba9876543210"
+    )?;
+    expect(rt, alloc, status, 1, text.as_str())
+}
+
+#[test]
+fn a_record_is_reported_by_its_field(rt: HostRuntime) -> Result<(), AllocError> {
+    for &(field, name) in &FIELDS {
+        expect_field(&rt, rt.alloc(), field, name)?;
+    }
+    Ok(())
+}
+
+#[test]
+fn a_stream_is_reported_by_its_verdict(rt: HostRuntime) -> Result<(), AllocError> {
+    let alloc = rt.alloc();
+    let (n, field) = (0, Field::Rd);
+    let disagree = Status::Disagree {
+        n,
+        field,
+        allowed: Some(13),
+        given: None,
+    };
+    let text = "disagree record=0 field=rd allowed=000000000000000d given=none";
+    expect(&rt, alloc, disagree, 1, text)?;
+    let bad = Status::BadLine { n: 5, column: 255 };
+    expect(&rt, alloc, bad, 12, "bad line record=5 column=255")?;
+    let many = Status::TooMany(1_000_000_000);
+    expect(&rt, alloc, many, 14, "too many records=1000000000")?;
+    let passed = "passed records=14";
+    expect_after(&rt, alloc, Tally::Judged(14), Status::Done, 0, passed)
 }
 
 // The objects outside.

@@ -1,109 +1,82 @@
 //! What is done with a machine.
 
-ghost use Rattle.std.specs.Prelude.{◌≡◌, ◌≤◌, IfErr, IfOk, IsSome, OnOk};
-ghost use Rattle.job_words.specs.Job.{Turns};
+ghost use Rattle.std.specs.Prelude.{◌≡◌, ◌≤◌, IfErr, IfOk, IsSome, IsTrue};
+ghost use Rattle.hart_turns.specs.Machine.{is_running};
 ghost use Rattle.job_words.specs.Seen.{MakesFewTurns, work_seen};
-ghost use Rattle.outside_acts.specs.Calls.{Caused, Does, GoesQuietly, Stops};
-ghost use Rattle.turn_runs.specs.Reaching.{HoldsLogs, OverInput, log_uses};
+ghost use Rattle.outside_acts.specs.Acts.{DidCut};
+ghost use Rattle.outside_acts.specs.Calls.{Caused, GoesQuietly};
+ghost use Rattle.turn_runs.specs.Resuming.{HasResumed, resume_acts, resume_uses};
 ghost use Rattle.dromajo.specs.Classes.{Ended, class_of};
-ghost use Rattle.dromajo.specs.Jobs.{end_status, start_acts, work_uses};
-ghost use Rattle.dromajo.specs.Works.{WorkEnds, WorkStops};
+ghost use Rattle.dromajo.specs.Jobs.{work_uses};
+ghost use Rattle.dromajo.specs.Works.{BeginsWell, BegunEnds, BegunStops, OverLeft, begun_with};
 
-use crate::status::Status;
-use hart_turns::{Machine, TurnEnd};
-use job_words::{Logs, Work};
+mod judging;
+mod saving;
+mod turns;
+
+use crate::status::{Status, Tally};
+use checkpoint_run::SavesOutside;
+use hart_turns::Machine;
+use job_words::Work;
+use judging::judge_stream;
 use outside_acts::{Outside, Stop};
+use saving::save_turns;
 use std::alloc::Global;
-use turn_runs::{Feed, run};
+use turn_runs::{Feed, resume};
+use turns::make_turns;
 
-/// How a job ended, before its report: the turns that it made, and the input bytes that were taken.
+/// How a job ended, before its report, and what it counted.
 #[derive(Drop)]
 pub(crate) struct Finished {
     pub(crate) status: Status,
-    pub(crate) turns: u64,
-    pub(crate) taken: u64,
+    pub(crate) tally: Tally,
 }
 
-/// The status of a run whose last turn, of this number, ended so.
-fn status_at(end: TurnEnd, turn: u64) -> Status
-    ensures value { result ≡ end_status end turn }
-    ensures class { class_of result ≡ Ended }
-{
-    match end {
-        TurnEnd::Goes => Status::Done,
-        TurnEnd::Ended(0) => Status::Done,
-        TurnEnd::Ended(code) => Status::GuestEnded { code, turn },
-        TurnEnd::BadHost(word) => Status::BadHostWord { word, turn },
-    }
-}
-
-/// Makes the files of the logs, and empties them.
-fn start_logs<W: Outside>(logs: &Logs<'_>, outside: &mut W) -> Result<(), Stop>
-    ensures done { OnOk result (Does (start_acts logs.now) (W.world outside.old) (W.world outside.new)) }
-    ensures cut { IfErr result (λ stop. Stops stop (start_acts logs.now) (W.world outside.old) (W.world outside.new)) }
-    ensures cause { Caused (log_uses logs.now) result (W.world outside.old) (W.world outside.new) }
-    ensures there { OnOk result (IsSome (W.world outside.old).held → HoldsLogs logs.now (W.world outside.new)) }
+/// A machine takes up its run: what its boot sent goes to the console, and of the input it passes over what it
+/// had taken. Answers the place of its input.
+fn take_up<W: Outside>(machine: &Machine, outside: &mut W) -> Result<Feed, Stop>
+    ensures resumed { IfOk result (λ feed. OverLeft (W.world outside.old) (λ input.
+        HasResumed input machine.now.console machine.now.machine.taken feed
+        (W.world outside.old) (W.world outside.new))) }
+    ensures cut { IfErr result (λ stop. OverLeft (W.world outside.old) (λ input.
+        DidCut stop input 0 (resume_acts machine.now.console machine.now.machine.taken)
+        (W.world outside.old) (W.world outside.new))) }
+    ensures cause { Caused resume_uses result (W.world outside.old) (W.world outside.new) }
     ensures calm { W.quiet outside.old → GoesQuietly (W.quiet outside.new) result }
 {
-    match logs.trace() {
-        Some(name) => outside.start(name),
-        None => Ok(()),
+    let mut feed = Feed::new();
+    match resume(machine, &mut feed, outside) {
+        Ok(()) => Ok(feed),
+        Err(stop) => Err(stop),
     }
 }
 
-/// Makes so many turns, or as many as there are to the first that ends the run, and logs them.
-fn make_turns<W: Outside>(
-    alloc: Global,
-    machine: &mut Machine,
-    feed: &mut Feed,
-    turns: u64,
-    logs: &Logs<'_>,
-    outside: &mut W,
-) -> Result<Finished, Stop>
-    requires taken { machine.old.machine.taken ≤ 1_000_000_000_000 }
-    requires most { turns ≤ 1_000_000_000 }
-    ensures done { IfOk result (λ finished. OverInput machine.old.machine feed.old (W.world outside.old) (λ input from.
-        WorkEnds (Turns turns logs.now) machine.old.machine finished input from (W.world outside.old) (W.world outside.new))) }
-    ensures cut { IfErr result (λ stop. OverInput machine.old.machine feed.old (W.world outside.old) (λ input from.
-        WorkStops stop (Turns turns logs.now) machine.old.machine input from (W.world outside.old) (W.world outside.new))) }
-    ensures ended { IfOk result (λ finished. class_of finished.status ≡ Ended) }
-    ensures cause { Caused (log_uses logs.now) result (W.world outside.old) (W.world outside.new) }
-    ensures calm { W.quiet outside.old → IsSome (W.world outside.old).held → GoesQuietly (W.quiet outside.new) result }
-{
-    match start_logs(logs, outside) {
-        Ok(()) => {}
-        Err(stop) => return Err(stop),
-    }
-    let ran = match run(alloc, machine, feed, turns, logs, outside) {
-        Ok(ran) => ran,
-        Err(stop) => return Err(stop),
-    };
-    Ok(Finished {
-        status: status_at(ran.end, ran.made),
-        turns: ran.made,
-        taken: machine.taken(),
-    })
-}
-
-/// Does a work with a machine that was begun, whose input the feed holds.
-pub(crate) fn do_work<W: Outside>(
+/// Does a work with a machine that was begun, of whose input nothing was read yet.
+pub(crate) fn do_work<W: SavesOutside>(
     alloc: Global,
     work: &Work<'_>,
-    machine: &mut Machine,
-    feed: &mut Feed,
+    machine: Machine,
     outside: &mut W,
 ) -> Result<Finished, Stop>
-    requires taken { machine.old.machine.taken ≤ 1_000_000_000_000 }
-    requires most { MakesFewTurns work.now }
-    ensures done { IfOk result (λ finished. OverInput machine.old.machine feed.old (W.world outside.old) (λ input from.
-        WorkEnds (work_seen work.now) machine.old.machine finished input from (W.world outside.old) (W.world outside.new))) }
-    ensures cut { IfErr result (λ stop. OverInput machine.old.machine feed.old (W.world outside.old) (λ input from.
-        WorkStops stop (work_seen work.now) machine.old.machine input from (W.world outside.old) (W.world outside.new))) }
+    requires few { MakesFewTurns work.now }
+    requires well { BeginsWell (work_seen work.now) machine }
+    requires running { IsTrue (is_running machine.machine) }
+    requires taken { machine.machine.taken ≤ 1_000_000_000_000 }
+    ensures done { IfOk result (λ finished. OverLeft (W.world outside.old) (λ input.
+        BegunEnds (work_seen work.now) (begun_with machine) finished input
+        (W.world outside.old) (W.world outside.new))) }
+    ensures cut { IfErr result (λ stop. OverLeft (W.world outside.old) (λ input.
+        BegunStops stop (work_seen work.now) (begun_with machine) input
+        (W.world outside.old) (W.world outside.new))) }
     ensures ended { IfOk result (λ finished. class_of finished.status ≡ Ended) }
     ensures cause { Caused (work_uses (work_seen work.now)) result (W.world outside.old) (W.world outside.new) }
     ensures calm { W.quiet outside.old → IsSome (W.world outside.old).held → GoesQuietly (W.quiet outside.new) result }
 {
     match work {
-        Work::Turns { turns, logs } => make_turns(alloc, machine, feed, *turns, logs, outside),
+        Work::Turns { turns, logs } => make_turns(alloc, machine, *turns, logs, outside),
+        Work::Save { turns, name, more } => {
+            save_turns(alloc, machine, *turns, name, *more, outside)
+        }
+        Work::Judge => judge_stream(machine, outside),
     }
 }

@@ -4,7 +4,11 @@ use Rattle.std.specs.Prelude.{replicate}
 use Rattle.std.specs.Option.{option_and_then}
 use Rattle.std.specs.Str.{bytes_eq}
 use Rattle.std.proofs.lemmas.List.{drop_all}
-use Rattle.job_words.specs.Job.{Job}
+use Rattle.job_words.specs.declared.jobs.Begin.{Begin as NamedBegin}
+use Rattle.job_words.specs.declared.jobs.Begin.TheVariants.{Checkpoint, Config, Image}
+use Rattle.job_words.specs.declared.jobs.Work.TheVariants as named
+use Rattle.job_words.specs.Job.{Job, Logs}
+use Rattle.job_words.specs.Seen.{MayBegin}
 use Rattle.job_words.specs.CommandLine.{Given, Row, found_in, job_with, none_given, row_job}
 use Rattle.job_words.specs.Places.{in_places}
 
@@ -55,3 +59,9 @@ pub row_found : (row : Row) (values : List (Option (Bor (List ℕ)))) (words : L
 row_found row values words size is =
     row_job_by row words (Some (in_places row.names values)) is
     ∙ ap (λ (vs : List (Option (Bor (List ℕ)))). job_by row (in_places row.names vs)) (each_of 0 (length row.names) values (omega arith))
+
+-- turns begin anywhere
+pub turns_anywhere : (turns : ℕ) (logs : Logs) (begin : NamedBegin) → MayBegin begin (named.Turns turns logs)
+turns_anywhere turns logs (Config name) = tt
+turns_anywhere turns logs (Image name) = tt
+turns_anywhere turns logs (Checkpoint name) = tt

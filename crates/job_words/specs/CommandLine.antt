@@ -7,7 +7,7 @@ use Rattle.std.specs.List.{list_all, list_any}
 use Rattle.std.specs.Option.{option_map, option_and_then}
 use Rattle.std.specs.Str.{bytes_eq}
 use Rattle.std.specs.Str.Parse.{digits_value}
-use Rattle.job_words.specs.Job.{Begin, FromCheckpoint, FromConfig, FromImage, Job, Logs, Turns, Work}
+use Rattle.job_words.specs.Job.{Begin, FromCheckpoint, FromConfig, FromImage, Job, Judge, Logs, Save, Turns, Work}
 
 -- ---- values
 
@@ -79,6 +79,10 @@ at_file begin text = option_map begin (name_in text)
 abbrev pub run_begin : Option (List ℕ) → Option (List ℕ) → Option Begin
 run_begin config image = one (read_as (at_file FromConfig) config ++ read_as (at_file FromImage) image)
 
+-- exactly one configuration
+abbrev pub config_begin : Option (List ℕ) → Option Begin
+config_begin config = one (read_as (at_file FromConfig) config)
+
 -- exactly one checkpoint
 abbrev pub load_begin : Option (List ℕ) → Option Begin
 load_begin name = one (read_as (at_file FromCheckpoint) name)
@@ -99,6 +103,23 @@ turns_with turns logs = None
 -- so many turns, logged to these files
 abbrev pub turns_work : Option (List ℕ) → Option (List ℕ) → Option Work
 turns_work turns trace = turns_with (turns_in turns) (logs_in trace)
+
+-- exactly one name that a checkpoint is saved as
+abbrev pub checkpoint_in : Option (List ℕ) → Option (List ℕ)
+checkpoint_in name = one (read_as name_in name)
+
+-- at most one number of turns that follow a save, and 0 where it is not given
+abbrev pub more_in : Option (List ℕ) → Option ℕ
+more_in more = one_or 0 (read_as (number_in most_turns) more)
+
+-- a save needs the turns before it, its name, and the turns that follow
+abbrev pub save_with : Option ℕ → Option (List ℕ) → Option ℕ → Option Work
+save_with (Some turns) (Some name) (Some more) = Some (Save turns name more)
+save_with turns name more = None
+
+-- so many turns, and where none of them ends the run a save under this name and so many turns more
+abbrev pub save_work : Option (List ℕ) → Option (List ℕ) → Option (List ℕ) → Option Work
+save_work turns name more = save_with (turns_in turns) (checkpoint_in name) (more_in more)
 
 -- ---- the commands
 
@@ -126,8 +147,24 @@ load_row = record {
   work = λ v. turns_work (v (codes "--turns")) (v (codes "--trace"));
 }
 
+abbrev pub save_row : Row
+save_row = record {
+  word = codes "save";
+  names = codes "--turns" ∷ codes "--name" ∷ codes "--more" ∷ codes "--config" ∷ [];
+  begin = λ v. config_begin (v (codes "--config"));
+  work = λ v. save_work (v (codes "--turns")) (v (codes "--name")) (v (codes "--more"));
+}
+
+abbrev pub cosim_row : Row
+cosim_row = record {
+  word = codes "cosim";
+  names = codes "--config" ∷ [];
+  begin = λ v. config_begin (v (codes "--config"));
+  work = λ v. Some Judge;
+}
+
 abbrev pub rows : List Row
-rows = run_row ∷ load_row ∷ []
+rows = run_row ∷ load_row ∷ save_row ∷ cosim_row ∷ []
 
 -- a job has both its parts
 abbrev pub job_with : Option Begin → Option Work → Option Job

@@ -15,6 +15,11 @@ pub record Logs : Type 0 where
 pub data Work : Type 0 where
   -- it makes so many turns, which are logged to these files
   Turns : ℕ → Logs → Work
+  -- it makes so many turns, and where none of them ends the run is saved as a checkpoint of this name and makes so many
+  -- turns more
+  Save : ℕ → List ℕ → ℕ → Work
+  -- the input is judged as the commit stream of another core
+  Judge : Work
 
 -- what the program is asked to do
 pub record Job : Type 0 where

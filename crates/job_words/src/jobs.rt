@@ -59,6 +59,17 @@ pub enum Work<'a> {
         /// The files that the turns are logged to.
         logs: Logs<'a>,
     },
+    /// It makes so many turns, is saved as a checkpoint, and goes on.
+    Save {
+        /// How many turns come before the save.
+        turns: u64,
+        /// The checkpoint's name.
+        name: &'a str,
+        /// How many turns follow the save.
+        more: u64,
+    },
+    /// The input is judged as the commit stream of another core.
+    Judge,
 }
 
 /// What the program is asked to do.

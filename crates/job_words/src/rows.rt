@@ -1,9 +1,11 @@
 //! The commands: one function for each row, and the one that chooses among them.
 
-ghost use Rattle.std.specs.Prelude.{◌≡◌, IfSome};
+ghost use Rattle.std.specs.Prelude.{◌≡◌, ◌≤◌, IfSome};
 ghost use Rattle.std.specs.Option.{option_copied, option_map};
-ghost use Rattle.job_words.specs.CommandLine.{job_of, job_with, load_begin, load_row, logs_in, row_job, run_begin, run_row, texts, turns_work};
-ghost use Rattle.job_words.specs.Seen.{HasFewTurns, MakesFewTurns, begin_seen, job_seen, work_seen};
+ghost use Rattle.job_words.specs.CommandLine.{config_begin, cosim_row, job_of, job_with, load_begin, load_row, logs_in, more_in, most_turns, row_job, run_begin, run_row, save_row, save_work, texts, turns_work};
+ghost use Rattle.job_words.specs.declared.jobs.Begin.{Begin as NamedBegin};
+ghost use Rattle.job_words.specs.declared.jobs.Work.{Work as NamedWork};
+ghost use Rattle.job_words.specs.Seen.{IsNamed, MakesFewTurns, MayBegin, begin_seen, job_seen, work_seen};
 
 use crate::jobs::{Begin, Job, Logs, Work};
 use crate::values::{MOST_TURNS, file_name, number};
@@ -12,12 +14,14 @@ use crate::walk::walk;
 /// The job that the words name, none where they name no job.
 pub fn named_job(words: &[String]) -> Option<Job<'_>>
     ensures job { option_map job_seen result ≡ job_of (texts words.now) }
-    ensures few { IfSome result HasFewTurns }
+    ensures named { IfSome result IsNamed }
 {
     let (command, others) = words.split_first()?;
     match command.as_str() {
         "run" => run_job(others),
         "load" => load_job(others),
+        "save" => save_job(others),
+        "cosim" => cosim_job(others),
         _ => None,
     }
 }
@@ -25,7 +29,7 @@ pub fn named_job(words: &[String]) -> Option<Job<'_>>
 /// The job of the words after `run`.
 fn run_job(words: &[String]) -> Option<Job<'_>>
     ensures job { option_map job_seen result ≡ row_job run_row (texts words.now) }
-    ensures few { IfSome result HasFewTurns }
+    ensures named { IfSome result IsNamed }
 {
     let names = ["--turns", "--config", "--image", "--trace"];
     let mut values = [None; 4];
@@ -39,7 +43,7 @@ fn run_job(words: &[String]) -> Option<Job<'_>>
 /// The job of the words after `load`.
 fn load_job(words: &[String]) -> Option<Job<'_>>
     ensures job { option_map job_seen result ≡ row_job load_row (texts words.now) }
-    ensures few { IfSome result HasFewTurns }
+    ensures named { IfSome result IsNamed }
 {
     let names = ["--name", "--turns", "--trace"];
     let mut values = [None; 3];
@@ -50,12 +54,41 @@ fn load_job(words: &[String]) -> Option<Job<'_>>
     job_with(load_begin(name), turns_work(turns, trace))
 }
 
+/// The job of the words after `save`.
+fn save_job(words: &[String]) -> Option<Job<'_>>
+    ensures job { option_map job_seen result ≡ row_job save_row (texts words.now) }
+    ensures named { IfSome result IsNamed }
+{
+    let names = ["--turns", "--name", "--more", "--config"];
+    let mut values = [None; 4];
+    if !walk(&names, words, &mut values) {
+        return None;
+    }
+    let [turns, name, more, config] = values;
+    job_with(config_begin(config), save_work(turns, name, more))
+}
+
+/// The job of the words after `cosim`.
+fn cosim_job(words: &[String]) -> Option<Job<'_>>
+    ensures job { option_map job_seen result ≡ row_job cosim_row (texts words.now) }
+    ensures named { IfSome result IsNamed }
+{
+    let names = ["--config"];
+    let mut values = [None; 1];
+    if !walk(&names, words, &mut values) {
+        return None;
+    }
+    let [config] = values;
+    job_with(config_begin(config), Some(Work::Judge))
+}
+
 /// The job of these parts, where both are there.
 fn job_with<'a>(begin: Option<Begin<'a>>, work: Option<Work<'a>>) -> Option<Job<'a>>
     requires few { IfSome work MakesFewTurns }
+    requires reset { IfSome begin (λ b. IfSome work (MayBegin b)) }
     ensures job { option_map job_seen result
         ≡ job_with (option_map begin_seen begin.entry) (option_map work_seen work.entry) }
-    ensures few { IfSome result HasFewTurns }
+    ensures named { IfSome result IsNamed }
 {
     Some(Job {
         begin: begin?,
@@ -74,6 +107,14 @@ fn run_begin<'a>(config: Option<&'a str>, image: Option<&'a str>) -> Option<Begi
     }
 }
 
+/// The configuration of this name.
+fn config_begin<'a>(config: Option<&'a str>) -> Option<Begin<'a>>
+    ensures begin { option_map begin_seen result ≡ config_begin (option_copied config.entry) }
+    ensures reset { IfSome result (λ begin. (work : NamedWork) → MayBegin begin work) }
+{
+    Some(Begin::Config(file_name(config?)?))
+}
+
 /// The checkpoint of this name.
 fn load_begin<'a>(name: Option<&'a str>) -> Option<Begin<'a>>
     ensures { option_map begin_seen result ≡ load_begin (option_copied name.entry) }
@@ -82,9 +123,11 @@ fn load_begin<'a>(name: Option<&'a str>) -> Option<Begin<'a>>
 }
 
 /// So many turns, logged to these files.
+#[tactic(auto, using(crate::proofs::Commands::turns_anywhere))]
 fn turns_work<'a>(turns: Option<&'a str>, trace: Option<&'a str>) -> Option<Work<'a>>
     ensures work { option_map work_seen result ≡ turns_work (option_copied turns.entry) (option_copied trace.entry) }
     ensures few { IfSome result MakesFewTurns }
+    ensures anywhere { IfSome result (λ work. (begin : NamedBegin) → MayBegin begin work) }
 {
     let turns = number(turns?, MOST_TURNS)?;
     let logs = logs(trace)?;
@@ -98,5 +141,32 @@ fn logs<'a>(trace: Option<&'a str>) -> Option<Logs<'a>>
     match trace {
         Some(trace) => Some(Logs::new(Some(file_name(trace)?))),
         None => Some(Logs::new(None)),
+    }
+}
+
+/// So many turns, a save under this name, and so many turns more.
+fn save_work<'a>(
+    turns: Option<&'a str>,
+    name: Option<&'a str>,
+    more: Option<&'a str>,
+) -> Option<Work<'a>>
+    ensures work { option_map work_seen result
+        ≡ save_work (option_copied turns.entry) (option_copied name.entry) (option_copied more.entry) }
+    ensures few { IfSome result MakesFewTurns }
+{
+    let turns = number(turns?, MOST_TURNS)?;
+    let name = file_name(name?)?;
+    let more = more_turns(more)?;
+    Some(Work::Save { turns, name, more })
+}
+
+/// The number of turns that follow a save.
+fn more_turns(more: Option<&str>) -> Option<u64>
+    ensures value { result ≡ more_in (option_copied more.entry) }
+    ensures within { IfSome result (λ n. n ≤ most_turns) }
+{
+    match more {
+        Some(more) => number(more, MOST_TURNS),
+        None => Some(0),
     }
 }

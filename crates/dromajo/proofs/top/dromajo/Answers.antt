@@ -1,13 +1,22 @@
--- A front of the bytes, from what the job leaves.
+-- What is restored, and a front of the bytes, from what the job leaves.
 use Rattle.std.proofs.Common.{Global, List, String, subst}
 use Rattle.job_words.specs.CommandLine.{job_of, texts}
 use Rattle.outside_acts.specs.World.{World}
-use Rattle.dromajo.specs.TopCall.{SendsFront, told_of}
-use Rattle.dromajo.proofs.Answered.{leaves_front}
+use Rattle.dromajo.specs.TopCall.{RestoresSaved, SendsFront, told_of}
+use Rattle.dromajo.proofs.Answered.{finished_leaves, leaves_front}
+use Rattle.dromajo.proofs.Restored.{finished_restores}
 use Rattle.dromajo.proofs.top.dromajo.Goals as goal
+
+pub returns-clause-restored : goal.returns-clause-restored
+returns-clause-restored g c = λ finished.
+    let before : World = told_of g.F.Files g.I.Source g.O.Sink c.args.files.now c.args.input.now c.args.out.now in
+    let now : World = told_of g.F.Files g.I.Source g.O.Sink c.perform-finished.new.files c.perform-finished.new.input c.perform-finished.new.out in
+    subst (λ (words : List (String Global)). RestoresSaved (job_of (texts words)) before now) c.as_slice.ensures.value
+    (finished_restores (job_of (texts c.as_slice.result.now)) c.finish.result before now
+    (finished_leaves (job_of (texts c.as_slice.result.now)) c.perform-finished.result.status c.finish.result _ before now finished c.finish.ensures.reports.status c.perform-finished.ensures.leaves))
 
 pub returns-clause-front : goal.returns-clause-front
 returns-clause-front g c =
-    let before : World = told_of g.F.Files.held g.F.Files.read_faults g.F.Files.write_faults g.I.Source.left g.I.Source.faults g.O.Sink.written g.O.Sink.faults c.args.files.now c.args.input.now c.args.out.now in
-    let now : World = told_of g.F.Files.held g.F.Files.read_faults g.F.Files.write_faults g.I.Source.left g.I.Source.faults g.O.Sink.written g.O.Sink.faults c.perform-finished.new.files c.perform-finished.new.input c.perform-finished.new.out in
+    let before : World = told_of g.F.Files g.I.Source g.O.Sink c.args.files.now c.args.input.now c.args.out.now in
+    let now : World = told_of g.F.Files g.I.Source g.O.Sink c.perform-finished.new.files c.perform-finished.new.input c.perform-finished.new.out in
     subst (λ (words : List (String Global)). SendsFront (job_of (texts words)) before now) c.as_slice.ensures.value (leaves_front (job_of (texts c.as_slice.result.now)) c.perform-finished.result.status _ before now c.perform-finished.ensures.leaves)
