@@ -1,8 +1,8 @@
 #!/usr/bin/env bash
 # Judged records per second of user processor time, through `Judge::feed`, on the trace of examples/tables.c,
-# fed in pieces of 64 KiB (or as many bytes as the second word says). No command uses the judge yet, so this
-# makes a copy of the repository with one more crate, whose main judges the trace as often as its word says:
-# six times less once is what is timed, which takes the start-up away.
+# fed in pieces of 64 KiB (or as many bytes as the second word says). The command `cosim` also reads a file or
+# a pipe, which is not to be timed here, so this makes a copy of the repository with one more crate, whose main
+# judges the trace as often as it has words: six times less once is what is timed, which takes the start-up away.
 # Run it at the top of the checkout after `rt run` in crates/dromajo has built out/dromajo.
 set -eu
 program=$(realpath "${1:-crates/dromajo/out/dromajo}")
