@@ -1,5 +1,10 @@
+pub mod Answered
 pub mod Bits
+pub mod Found
 pub mod Kept
+pub mod Known
+pub mod Marks
+pub mod Pages
 pub mod Places
 pub mod Reckoned
 pub mod Steps

@@ -18,7 +18,7 @@ end_level level path = level + 1 - length path
 -- ---- from the definition to the walk
 
 -- what an entry decides where a way ends, it decides for the whole walk
-followed : (ram : List ℕ) (mode : Mode) (sum mxr : Bool) (kind : Kind) (va : ℕ) (Ends : ℕ → ℕ → Type 0) (answer : Result ℕ WalkFault) → ((level table : ℕ) → Ends level (entry_address va level table) → walked ram mode sum mxr kind va (suc level) table ≡ answer) → (level table : ℕ) (path : List ℕ) → IsWay ram va level table path → Ends (end_level level path) (last_of path) → walked ram mode sum mxr kind va (suc level) table ≡ answer
+pub followed : (ram : List ℕ) (mode : Mode) (sum mxr : Bool) (kind : Kind) (va : ℕ) (Ends : ℕ → ℕ → Type 0) (answer : Result ℕ WalkFault) → ((level table : ℕ) → Ends level (entry_address va level table) → walked ram mode sum mxr kind va (suc level) table ≡ answer) → (level table : ℕ) (path : List ℕ) → IsWay ram va level table path → Ends (end_level level path) (last_of path) → walked ram mode sum mxr kind va (suc level) table ≡ answer
 followed ram mode sum mxr kind va Ends answer here level table [] way end = absurd way
 followed ram mode sum mxr kind va Ends answer here level table (at ∷ []) way end =
     let same : level + 1 - 1 ≡ level = omega arith in

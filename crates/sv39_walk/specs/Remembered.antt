@@ -23,6 +23,11 @@ pub record IsWalked (ram : List ℕ) (known : Remembered) : Type 0 where
 abbrev pub Agrees : List Remembered → List ℕ → Type 0
 Agrees walker ram = All (λ known. IsWalked ram known) walker
 
+-- a translation is remembered for this root table and this page
+abbrev pub IsRemembered : List Remembered → ℕ → ℕ → Type 0
+IsRemembered walker root page =
+    (known : Remembered) × Contains walker known × (known.root ≡ root) × (known.page ≡ page)
+
 -- the entry of 8 bytes at `entry` has none of the n bytes from `at`
 abbrev pub IsApart : ℕ → ℕ → ℕ → Type 0
 IsApart at n entry = (byte : ℕ) → entry ≤ byte → byte < entry + 8 → at ≤ byte → byte < at + n → ⊥

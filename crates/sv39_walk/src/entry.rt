@@ -1,6 +1,7 @@
 //! A page-table entry and its bits.
 
-ghost use Rattle.std.specs.Prelude.{◌≡◌, ◌∷◌, ◌+◌, ◌*◌, ◌%◌, ◌^◌, ◌<◌, ◌≤◌, ◌&&◌, [], ⊤, codes};
+ghost use Rattle.std.specs.Prelude.{◌≡◌, ◌∷◌, ◌+◌, ◌*◌, ◌%◌, ◌^◌, ◌<◌, ◌≤◌, ◌&&◌, [], ⊤, codes, IsTrue};
+ghost use Rattle.sv39_walk.specs.Slots.{IsOpen};
 ghost use Rattle.rv_alu.specs.Bits.{has_bit};
 ghost use Rattle.sv39_walk.specs.Entry.{address_in, is_aligned, is_leaf, is_pointer, is_well_formed, page_of, permits, permits_kind, permits_mode, supervisor_may};
 
@@ -55,6 +56,13 @@ impl Entry {
         ensures { result.0 ≡ word }
     {
         Entry(word)
+    }
+
+    /// Its number.
+    pub fn word(self) -> u64
+        ensures { result ≡ self.0 }
+    {
+        self.0
     }
 
     fn is_valid(self) -> bool
@@ -161,6 +169,23 @@ impl Entry {
             && self.is_accessed()
             && self.permits_kind(ctx, kind)
             && self.permits_mode(ctx, kind)
+    }
+
+    /// Whether it permits the access by its own bits, whatever SUM and MXR say.
+    #[inline(always)]
+    pub(crate) fn is_open(self, mode: Mode, kind: Kind) -> bool
+        ensures { IsTrue result → IsOpen mode kind self.0 }
+    {
+        let user = match mode {
+            Mode::U => self.is_user(),
+            Mode::S => !self.is_user(),
+            Mode::M => false,
+        };
+        user && match kind {
+            Kind::Fetch => self.is_executable(),
+            Kind::Load => self.is_readable(),
+            Kind::Store => self.is_dirty() && self.is_writable(),
+        }
     }
 
     /// The physical page number.

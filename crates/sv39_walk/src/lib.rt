@@ -1,11 +1,19 @@
-//! The translation of addresses by Sv39 page tables in guest memory, as a walker does it that may
-//! remember what it has read. Which address is mapped where is defined in `specs/Walk.antt`.
+//! The translation of addresses by Sv39 page tables in guest memory. Which address is mapped where is
+//! defined in `specs/Walk.antt`.
+//!
+//! A walker remembers up to 64 translations, one in each slot. A translation that was answered is in the
+//! slot of its page, whose number is the low 6 bits of the page's, until another one takes the slot or all
+//! are forgotten. Kept are the root table, the page, the addresses of the entries that were read, and the
+//! leaf; whether the leaf permits an access is tested at each use. The walker marks each page of RAM in
+//! which it has read an entry, and forgets all when it is told of a store to such a page.
 #![tactic(auto)]
 
 mod entry;
 mod laws;
+mod slots;
 #[cfg(test)]
 mod tests;
+mod walk;
 mod walker;
 
 pub use laws::{agrees_kept, one_address, plain_reckoning};

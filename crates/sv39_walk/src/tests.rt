@@ -1,6 +1,8 @@
 //! Walks of small page tables, with answers reckoned by hand and by a script that takes the manual's
 //! steps. The root table lies at 80001000, the table below it at 80002000, the last at 80003000.
 
+mod remembered;
+
 use super::*;
 use guest_ram::{GuestRam, PageTable};
 use std::alloc::{AllocError, Global};
