@@ -22,15 +22,15 @@ pub struct Refused;
 
 /// All devices of a board of 1 to 8 harts.
 ///
-/// Contracts see it as the values of their registers, `BoardState`, which are well formed (`IsFit`).
+/// Contracts see them as the values of their registers, `BoardState`, which are well formed (`IsFit`).
 #[derive(Drop)]
-pub struct Board {
+pub(crate) struct Devices {
     clint: Clint,
     plic: Plic,
     console: Console,
 }
 
-impl Model for Board {
+impl Model for Devices {
     ghost use Rattle.std.specs.Prelude.{◌≡◌, ◌≤◌, ◌*◌};
     ghost use Rattle.clint.specs.State.{hart_count};
     ghost use Rattle.plic.specs.State.{context_count};
@@ -43,16 +43,16 @@ impl Model for Board {
     ghost invariant = { λ b. (hart_count b.clint ≤ 8) × (context_count b.plic ≡ 2 * hart_count b.clint) };
 }
 
-impl Board {
+impl Devices {
     /// All devices at reset, for this many harts: 1 to 8.
     #[tactic(auto, unfolding(crate::specs::Board::reset_board))]
-    pub fn new(harts: u8) -> Board
+    pub(crate) fn new(harts: u8) -> Devices
         requires some { 0 < harts }
         requires most { harts ≤ 8 }
         ensures value { result ≡ reset_board harts }
         ensures harts { hart_count result ≡ harts }
     {
-        Board {
+        Devices {
             clint: Clint::reset(harts),
             plic: Plic::reset(harts),
             console: Console::reset(),
@@ -60,7 +60,7 @@ impl Board {
     }
 
     /// The devices are well formed.
-    pub fn see_fit(&self)
+    pub(crate) fn see_fit(&self)
         ensures { IsFit self.now }
     {
         self.clint.see_fit();
@@ -75,7 +75,7 @@ impl Board {
     ///
     /// `Refused` exactly where no register with this address and size is listed; then nothing changes.
     #[tactic(auto, unfolding(crate::specs::Listed::is_listed, crate::specs::Board::loaded, crate::specs::Board::after_load))]
-    pub fn load(&mut self, at: u64, size: u8) -> Result<u64, Refused>
+    pub(crate) fn load(&mut self, at: u64, size: u8) -> Result<u64, Refused>
         ensures listed { is_ok result ≡ is_listed (hart_count self.old) at size }
         ensures value { result_ok result ≡ loaded self.old at size }
         ensures left { self.new ≡ after_load self.old at size }
@@ -92,7 +92,7 @@ impl Board {
     ///
     /// `Refused` exactly where no register with this address and size is listed; then nothing changes.
     #[tactic(auto, unfolding(crate::specs::Listed::is_listed, crate::specs::Board::stored, crate::specs::Board::sent))]
-    pub fn store(
+    pub(crate) fn store(
         &mut self,
         at: u64,
         size: u8,
@@ -112,7 +112,7 @@ impl Board {
     /// The bits of `mip` that the devices drive for hart `h`: 3 (software), 7 (timer), 9 (external, S
     /// mode) and 11 (external, M mode).
     #[tactic(auto, unfolding(crate::specs::Board::live))]
-    pub fn live(&self, h: u8) -> u64
+    pub(crate) fn gathered(&self, h: u8) -> u64
         requires { h < hart_count self.now }
         ensures value { result ≡ live self.now h }
         ensures volatile { bit_and result driven_bits ≡ result }
@@ -127,14 +127,14 @@ impl Board {
     }
 
     /// The timer.
-    pub fn time(&self) -> u64
+    pub(crate) fn time(&self) -> u64
         ensures { result ≡ self.now.clint.mtime }
     {
         self.clint.time()
     }
 
     /// One tick of the timer, which counts modulo 2^64.
-    pub fn tick(&mut self)
+    pub(crate) fn tick(&mut self)
         ensures board { self.new ≡ ticked self.old }
         ensures harts { hart_count self.new ≡ hart_count self.old }
     {
@@ -143,7 +143,7 @@ impl Board {
 
     /// Takes an input byte into the console's queue. False exactly where 16 bytes wait; then nothing
     /// changes.
-    pub fn push_input(&mut self, b: u8) -> bool
+    pub(crate) fn push_input(&mut self, b: u8) -> bool
         ensures taken { result ≡ nat_lt (length self.old.console.queue) queue_room }
         ensures board { self.new ≡ entered self.old b }
         ensures harts { hart_count self.new ≡ hart_count self.old }
@@ -152,21 +152,21 @@ impl Board {
     }
 
     /// The core-local interruptor.
-    pub fn clint(&self) -> &Clint
+    pub(crate) fn clint(&self) -> &Clint
         ensures { result.now ≡ self.now.clint }
     {
         &self.clint
     }
 
     /// The interrupt controller.
-    pub fn plic(&self) -> &Plic
+    pub(crate) fn plic(&self) -> &Plic
         ensures { result.now ≡ self.now.plic }
     {
         &self.plic
     }
 
     /// The console.
-    pub fn console(&self) -> &Console
+    pub(crate) fn console(&self) -> &Console
         ensures { result.now ≡ self.now.console }
     {
         &self.console

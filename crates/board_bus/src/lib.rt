@@ -2,6 +2,7 @@
 //! store, the signals that they drive, and the host window.
 #![tactic(auto)]
 
+mod board;
 mod bus;
 mod laws;
 mod place;
@@ -9,7 +10,8 @@ mod place;
 mod tests;
 mod window;
 
-pub use bus::{Board, Refused};
+pub use board::Board;
+pub use bus::Refused;
 pub use laws::{access_laws, drives_four_bits, loads_fit};
 pub use place::listed;
 pub use window::{HostSays, host_word};

@@ -243,6 +243,194 @@ fn each_hart_gets_its_four_signals(rt: HostRuntime) -> Result<(), Fail> {
     Ok(())
 }
 
+// What happens to a board.
+#[derive(Clone, Copy)]
+enum Act {
+    Nothing,
+    Put(u64, u8, u64),
+    Take(u64, u8),
+    Tick,
+    Enter(u8),
+}
+
+// Two acts on the board below, and the signals of its two harts afterwards. Its interrupt of input is due for hart 0
+// in S mode; hart 1 in M mode enables that of output, which the console does not.
+static ACTS: [(&str, Act, Act, u64, u64); 23] = [
+    ("nothing", Act::Nothing, Act::Nothing, 0x200, 0),
+    (
+        "msip 1",
+        Act::Nothing,
+        Act::Put(0x200_0004, 4, 1),
+        0x200,
+        0x008,
+    ),
+    (
+        "msip 1, cleared",
+        Act::Put(0x200_0004, 4, 1),
+        Act::Put(0x200_0004, 4, 0),
+        0x200,
+        0,
+    ),
+    (
+        "mtimecmp 0",
+        Act::Nothing,
+        Act::Put(0x200_4000, 8, 0),
+        0x280,
+        0,
+    ),
+    (
+        "mtimecmp 1",
+        Act::Nothing,
+        Act::Put(0x200_4008, 8, 0),
+        0x200,
+        0x080,
+    ),
+    ("mtime", Act::Nothing, Act::Put(0x200_bff8, 8, 1), 0x280, 0),
+    ("tick", Act::Nothing, Act::Tick, 0x280, 0),
+    (
+        "tick, mtimecmp 0",
+        Act::Tick,
+        Act::Put(0x200_4000, 8, 2),
+        0x200,
+        0,
+    ),
+    (
+        "last time, tick",
+        Act::Put(0x200_bff8, 8, u64::MAX),
+        Act::Tick,
+        0x200,
+        0,
+    ),
+    (
+        "output enabled",
+        Act::Nothing,
+        Act::Put(0x1000_0008, 4, 3),
+        0x200,
+        0x800,
+    ),
+    (
+        "input disabled",
+        Act::Nothing,
+        Act::Put(0x1000_0008, 4, 2),
+        0,
+        0x800,
+    ),
+    ("priority 1", Act::Nothing, Act::Put(0xc00_0004, 4, 0), 0, 0),
+    (
+        "enable of context 1",
+        Act::Nothing,
+        Act::Put(0xc00_2080, 4, 4),
+        0,
+        0,
+    ),
+    (
+        "enable of context 2",
+        Act::Nothing,
+        Act::Put(0xc00_2100, 4, 2),
+        0x200,
+        0x800,
+    ),
+    (
+        "threshold of context 1",
+        Act::Nothing,
+        Act::Put(0xc20_1000, 4, 1),
+        0,
+        0,
+    ),
+    ("claim", Act::Nothing, Act::Take(0xc20_1004, 4), 0, 0),
+    (
+        "claim, completion",
+        Act::Take(0xc20_1004, 4),
+        Act::Put(0xc20_1004, 4, 1),
+        0x200,
+        0,
+    ),
+    (
+        "claim, no completion",
+        Act::Take(0xc20_1004, 4),
+        Act::Put(0xc20_2004, 4, 1),
+        0,
+        0,
+    ),
+    (
+        "claim of context 2",
+        Act::Nothing,
+        Act::Take(0xc20_2004, 4),
+        0x200,
+        0,
+    ),
+    ("byte taken", Act::Nothing, Act::Take(0x1000_0000, 1), 0, 0),
+    (
+        "byte taken, byte entered",
+        Act::Take(0x1000_0000, 1),
+        Act::Enter(66),
+        0x200,
+        0,
+    ),
+    (
+        "byte entered, byte taken",
+        Act::Enter(66),
+        Act::Take(0x1000_0000, 1),
+        0x200,
+        0,
+    ),
+    (
+        "no register",
+        Act::Put(0x200_0004, 1, 1),
+        Act::Take(0x1000_0000, 4),
+        0x200,
+        0,
+    ),
+];
+
+// A board of two harts at time 0, where mtimecmp of hart 0 is 1, the priorities of the sources are 1 and 2, context 1
+// enables source 1 and context 2 source 2, and the console, where a byte waits, the interrupt of input.
+fn waiting(rt: &impl Abort, ram: &GuestRam, out: &mut OutBuf) -> Result<Board, Refused>
+    ensures { IfOk result (λ board. hart_count board ≡ 2) }
+{
+    let mut board = Board::new(2);
+    put(rt, &mut board, (0x200_4000, 8), 1, ram, out)?;
+    put(rt, &mut board, (0xc00_0004, 4), 1, ram, out)?;
+    put(rt, &mut board, (0xc00_0008, 4), 2, ram, out)?;
+    put(rt, &mut board, (0xc00_2080, 4), 2, ram, out)?;
+    put(rt, &mut board, (0xc00_2100, 4), 4, ram, out)?;
+    put(rt, &mut board, (0x1000_0008, 4), 1, ram, out)?;
+    let _ = board.push_input(65);
+    Ok(board)
+}
+
+// Does an act; that no register is listed is no fault of a test.
+fn carry_out(rt: &impl Abort, board: &mut Board, act: Act, ram: &GuestRam, out: &mut OutBuf)
+    ensures { hart_count board.new ≡ hart_count board.old }
+{
+    match act {
+        Act::Nothing => {}
+        Act::Put(at, size, value) => {
+            let _ = put(rt, board, (at, size), value, ram, out);
+        }
+        Act::Take(at, size) => {
+            let _ = board.load(at, size);
+        }
+        Act::Tick => board.tick(),
+        Act::Enter(byte) => {
+            let _ = board.push_input(byte);
+        }
+    }
+}
+
+#[test]
+fn signals_follow_each_change_of_a_device(rt: HostRuntime) -> Result<(), Fail> {
+    let ram = GuestRam::new(rt.alloc(), 16)?;
+    let mut out = OutBuf::new(rt.alloc(), 512)?;
+    for &(name, first, second, of_zero, of_one) in &ACTS {
+        let mut board = waiting(&rt, &ram, &mut out)?;
+        carry_out(&rt, &mut board, first, &ram, &mut out);
+        carry_out(&rt, &mut board, second, &ram, &mut out);
+        assert_eq!(rt; (board.live(0), board.live(1)), (of_zero, of_one), "{name}");
+    }
+    Ok(())
+}
+
 #[test]
 fn claims_of_a_hart_take_both_sources_of_the_console(rt: HostRuntime) -> Result<(), Fail> {
     let ram = GuestRam::new(rt.alloc(), 16)?;
