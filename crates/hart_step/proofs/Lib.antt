@@ -1,5 +1,6 @@
 pub mod Outside
 pub mod Parity
+pub mod Recalled
 pub mod Lists
 pub mod Stores
 pub mod Steps

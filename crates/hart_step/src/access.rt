@@ -50,7 +50,8 @@ pub(crate) fn extended(extension: Extension, size: u8, value: u64) -> u64
     }
 }
 
-/// The body of [`load`], which stands once for all its instructions.
+/// The body of [`load`], which stands once for all its instructions, so that what it asks first, the page that
+/// the walker remembers, makes none of their arms longer.
 #[inline(never)]
 fn load_bytes<A: Answers>(
     site: Site,
@@ -75,6 +76,10 @@ fn load_bytes<A: Answers>(
     ensures keeps { Keeps hart.old hart.new memory.old memory.new }
 {
     let next = following(hart, site.len);
+    if let Some(at) = memory.near(hart, Kind::Load, size, va) {
+        let value = extended(extension, size, memory.read(at, size));
+        return write(hart, rd, value, next);
+    }
     let at = memory.data_address(hart, Kind::Load, size, va)?;
     if memory.holds(at, size) {
         let value = extended(extension, size, memory.read(at, size));
@@ -158,6 +163,11 @@ fn store_bytes<A: Answers>(
     ensures keeps { Keeps hart.old hart.new memory.old memory.new }
 {
     let next = following(hart, site.len);
+    if let Some(at) = memory.near(hart, Kind::Store, size, va) {
+        memory.write(at, size, value);
+        hart.pc = next;
+        return Ok(stored(Written::none(), at, size, value));
+    }
     let at = memory.data_address(hart, Kind::Store, size, va)?;
     if memory.holds(at, size) {
         memory.write(at, size, value);

@@ -8,6 +8,7 @@ ghost use Rattle.hart_step.specs.DebugReset.{debug_core};
 ghost use Rattle.hart_step.specs.Fit.{IsFit, IsWellFormed};
 ghost use Rattle.hart_step.specs.Harts.{hart_of, is_in_debug, lowest_in_debug, reset_core, reset_hart};
 ghost use Rattle.hart_step.specs.Memory.{most_rom};
+ghost use Rattle.sv39_walk.specs.Remembered.{Agrees};
 ghost use Rattle.hart_step.specs.Step.{after_store, host_cleared, unreserved, unreserved_hart, without_reservation};
 
 use crate::answers::Answers;
@@ -103,6 +104,13 @@ impl Core {
             harts: list,
             memory: Memory::new(ram, rom, walker),
         })
+    }
+
+    /// The walker of the page tables, with the translations that it remembers of this memory.
+    pub fn walker(&self) -> &Walker
+        ensures { Agrees result.now self.now.ram }
+    {
+        self.memory.walker()
     }
 
     /// How many harts there are.

@@ -5,7 +5,8 @@ ghost use Rattle.guest_ram.specs.Bytes.{has_part, number_at};
 ghost use Rattle.rv_alu.specs.declared.Mode.TheVariants.{M};
 ghost use Rattle.rv_decode.specs.Ranges.{IsInRange};
 ghost use Rattle.hart_step.specs.Harts.{IsFitHart};
-ghost use Rattle.hart_step.specs.Memory.{acting_mode};
+ghost use Rattle.hart_step.specs.Memory.{acting_mode, physical};
+ghost use Rattle.sv39_walk.specs.declared.Kind.TheVariants.{Fetch};
 ghost use Rattle.hart_step.specs.Step.{begun_by, decoded, fetched, first_of, parcel};
 
 use crate::exception::Exception;
@@ -42,8 +43,9 @@ fn parcel(hart: &Hart, memory: &mut Memory, va: u64) -> Result<u64, Exception>
 }
 
 /// Fetches the two parcels at the hart's pc, the first one in the low half; where that is an instruction of
-/// its own, what stands above it means nothing. Machine mode has no translation, so that both are read at
-/// once where RAM holds them.
+/// its own, what stands above it means nothing. Both are read at once where RAM holds them and the place of
+/// the first one's page is at hand: in machine mode, which has no translation, and where the walker
+/// remembers the page.
 #[inline(always)]
 pub(crate) fn fetch(hart: &Hart, memory: &mut Memory) -> Result<u32, Exception>
     requires { IsFitHart hart.now }
@@ -56,8 +58,22 @@ pub(crate) fn fetch(hart: &Hart, memory: &mut Memory) -> Result<u32, Exception>
         see_parcel(hart, memory, hart.pc.wrapping_add(2));
         return Ok(parcels);
     }
+    if let Some(at) = memory.pc_place(hart) {
+        let parcels = memory.parcels(at);
+        see_parcel_at(hart, memory, hart.pc, at);
+        see_parcel_at(hart, memory, hart.pc.wrapping_add(2), at + 2);
+        return Ok(parcels);
+    }
     fetch_slowly(hart, memory)
 }
+
+/// A parcel that RAM holds where its address leads is fetched.
+#[inline(always)]
+fn see_parcel_at(hart: &Hart, memory: &Memory, va: u64, at: u64)
+    requires leads { physical (acting_mode hart.now) Fetch hart.now memory.now.ram va ≡ Ok at }
+    requires inside { IsTrue (has_part memory.now.ram at 2) }
+    ensures { parcel hart.now memory.now va ≡ Ok (number_at memory.now.ram at 2) }
+{}
 
 /// Fetches the same in any mode. The place of what the call answers is in this function alone, so that it is
 /// not made where the call is not.

@@ -1,13 +1,13 @@
 // Memory as the harts of a core reach it.
 
-ghost use Rattle.std.specs.Prelude.{◌≡◌, ◌==◌, ◌+◌, ◌%◌, ◌^◌, ◌<◌, ◌*◌, IfOk, IsTrue, Ok, length, ◌≤◌, []};
+ghost use Rattle.std.specs.Prelude.{ℕ, IfSome, ◌/◌, ◌≡◌, ◌==◌, ◌+◌, ◌%◌, ◌^◌, ◌<◌, ◌*◌, IfOk, IsTrue, Ok, length, ◌≤◌, []};
 ghost use Rattle.byteorder.specs.Endian.{little_bytes};
 ghost use Rattle.guest_ram.specs.Bytes.{IsSize, has_part, number_at, with_part};
 ghost use Rattle.hart_step.specs.Clauses.{Locates, Translates};
 ghost use Rattle.hart_step.specs.Fit.{AreBytes};
-ghost use Rattle.hart_step.specs.Memory.{data_address, most_rom, physical, ram_address, rom_holds, rom_number};
+ghost use Rattle.hart_step.specs.Memory.{acting_mode, data_address, most_rom, physical, ram_address, rom_holds, rom_number};
 ghost use Rattle.sv39_walk.specs.Remembered.{Agrees};
-ghost use Rattle.sv39_walk.specs.declared.Kind.TheVariants.{Load, Store};
+ghost use Rattle.sv39_walk.specs.declared.Kind.TheVariants.{Fetch, Load, Store};
 
 use crate::exception::Exception;
 use crate::fit::see_bytes;
@@ -70,6 +70,13 @@ impl Memory {
         ensures { result.now ≡ self.now.rom }
     {
         self.rom.as_slice()
+    }
+
+    /// The walker.
+    pub(crate) fn walker(&self) -> &Walker
+        ensures { Agrees result.now self.now.ram }
+    {
+        &self.walker
     }
 
     /// The bytes of the RAM are bytes.
@@ -154,6 +161,60 @@ impl Memory {
     {
         let in_machine_mode = hart.mode == Mode::M && !has_any(mstatus(&hart.csrs), MSTATUS_MPRV);
         is_aligned(va, size) && in_machine_mode && self.holds(va, size)
+    }
+
+    /// The physical address of the page of `va`, where the walker remembers it for the accesses of this kind
+    /// that the hart makes in its own mode.
+    #[inline(always)]
+    fn page_base(&self, hart: &Hart, kind: Kind, va: u64) -> Option<u64>
+        ensures leads { IfSome result (λ base. (other : ℕ) → other / 4096 ≡ va / 4096
+            → physical hart.now.mode kind hart.now self.now.ram other ≡ Ok (base + other % 4096)) }
+        ensures page { IfSome result (λ base. (base % 4096 ≡ 0) × (base < 2 ^ 63)) }
+    {
+        self.walker.page_base(satp(&hart.csrs), hart.mode, kind, va)
+    }
+
+    /// Where a data access of `size` bytes at `va` goes that is aligned and made in the hart's own mode, where
+    /// the walker remembers the page and RAM holds the bytes.
+    #[inline(always)]
+    pub(crate) fn near(&self, hart: &Hart, kind: Kind, size: u8, va: u64) -> Option<u64>
+        requires { IsSize size }
+        ensures address { IfSome result (λ at. data_address kind size hart.now self.now.ram va ≡ Ok at) }
+        ensures aligned { IfSome result (λ at. at % size ≡ 0) }
+        ensures inside { IfSome result (λ at. IsTrue (has_part self.now.ram at size)) }
+    {
+        if !is_aligned(va, size) {
+            return None;
+        }
+        if hart.is_in_debug() {
+            return None;
+        }
+        if has_any(mstatus(&hart.csrs), MSTATUS_MPRV) {
+            return None;
+        }
+        let base = self.page_base(hart, kind, va)?;
+        let at = base + va % 4096;
+        if self.holds(at, size) { Some(at) } else { None }
+    }
+
+    /// Where the two parcels at the hart's pc stand, where one page has both, the walker remembers it and RAM
+    /// holds them.
+    #[inline(always)]
+    pub(crate) fn pc_place(&self, hart: &Hart) -> Option<u64>
+        ensures first { IfSome result (λ at. physical (acting_mode hart.now) Fetch hart.now self.now.ram hart.now.pc ≡ Ok at) }
+        ensures next { IfSome result (λ at. physical (acting_mode hart.now) Fetch hart.now self.now.ram ((hart.now.pc + 2) % 2 ^ 64) ≡ Ok (at + 2)) }
+        ensures even { hart.now.pc % 2 ≡ 0 → IfSome result (λ at. at % 2 ≡ 0) }
+        ensures inside { IfSome result (λ at. IsTrue (has_part self.now.ram at 4)) }
+    {
+        if hart.is_in_debug() {
+            return None;
+        }
+        if hart.pc % 4096 > 4092 {
+            return None;
+        }
+        let base = self.page_base(hart, Kind::Fetch, hart.pc)?;
+        let at = base + hart.pc % 4096;
+        if self.holds(at, 4) { Some(at) } else { None }
     }
 
     /// The physical address of an access of `size` bytes that RAM alone answers.
