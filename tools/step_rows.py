@@ -87,6 +87,11 @@ class Program:
             self.rows.append((row_text(h, mode, pc, word, did), note if did[0] != "Interrupted" else "an interrupt"))
         return self
 
+    def looked(self, what, at):
+        """What a walker remembers is told by hand, as the machine remembers nothing."""
+        self.rows.append(("(0, M, 0, 0, %s(%s))" % (what, number(at)), ""))
+        return self
+
     def held(self, h=0):
         held = self.machine.harts[h].held
         text = "Holds(%s)" % number(held) if held is not None else "HoldsNothing"
@@ -608,8 +613,8 @@ def virtual_fetches():
     csrrs x0,0x300,x7
     mret
     """)
-    p.steps(13)
-    p.steps(1)  # the second parcel is not mapped
+    p.looked("Forgot", 0x40000FFE).steps(14).looked("Remembers", 0x40000FFE)
+    p.looked("Forgot", 0x40001000)  # the second parcel is not mapped
     p.steps(8)  # a page of U mode
     p.steps(7)
     p.steps(1)

@@ -5,7 +5,7 @@ ghost use Rattle.csr_file.specs.View.{IsGiven};
 ghost use Rattle.board_bus.specs.Board.{hart_count};
 ghost use Rattle.hart_turns.specs.Gives.{board_volatile, board_word};
 
-use crate::registers::mcycle;
+use crate::registers::{mcycle, mip};
 use board_bus::Board;
 use console::OutBuf;
 use csr_file::CsrFile;
@@ -36,14 +36,18 @@ impl Answers for Outside {
 
     ghost after = { λ s h ram access. outside_after s ram access };
 
-    #[tactic(auto, using(crate::proofs::Quiet::nothing_enabled), unfolding(csr_file::specs::View::volatile_bits))]
+    #[tactic(auto, using(crate::proofs::Quiet::nothing_enabled, crate::proofs::Quiet::nothing_pending), unfolding(csr_file::specs::View::volatile_bits))]
     #[inline(always)]
     fn interrupt(&mut self, hart: u8, csrs: &CsrFile, mode: Mode) -> Option<u8> {
-        // the devices' signals need not be gathered where none of them can matter
+        // the devices' signals need not be looked at where none of them can matter
         if mie(csrs) == 0 {
             return None;
         }
-        pick(csrs, mode, self.board.live(hart))
+        let live = self.board.live(hart);
+        if (mip(csrs) | live) & mie(csrs) == 0 {
+            return None;
+        }
+        pick(csrs, mode, live)
     }
 
     #[inline(never)]

@@ -1,5 +1,5 @@
 //! Steps by tables. The words are those of an assembler (LLVM), and the expected steps are reckoned from the
-//! manual by tools/step_rows.py, with unbounded integers.
+//! manual by tools/step_rows.py and tools/translation_rows.py, with unbounded integers.
 
 ghost use Rattle.std.specs.Prelude.{◌≡◌, ◌+◌, ◌^◌, ◌-◌, bit_and, min};
 ghost use Rattle.csr_file.specs.View.{volatile_bits};
@@ -11,6 +11,7 @@ pub(crate) mod debug_mode;
 mod devices;
 mod memory;
 mod registers;
+mod translations;
 mod traps;
 mod words;
 
@@ -141,7 +142,16 @@ pub(crate) enum Did {
     Holds(u64),
     /// No step: the hart has no reservation.
     HoldsNothing,
+    /// No step: the walker remembers, for the root table of `SATP`, where this address leads.
+    Remembers(u64),
+    /// No step: the walker does not.
+    Forgot(u64),
+    /// No step: a device clears the eight bytes from this address.
+    Clears(u64),
 }
+
+/// Sv39 with the root table at 0x80001000.
+pub(crate) const SATP: u64 = 0x8000_0000_0008_0001;
 
 /// A step: the hart, its mode and pc before it, the word there, and what the step did.
 pub(crate) type Row = (u8, Priv, u64, u32, Did);
@@ -302,15 +312,6 @@ pub(crate) fn compare(rt: &impl Abort, core: &mut Core, fixed: &mut Fixed, row: 
     called(rt, fixed, row.4, count);
 }
 
-/// The reservation that a row asks for in place of a step.
-fn held(did: Did) -> Option<Option<u64>> {
-    match did {
-        Did::Holds(at) => Some(Some(at)),
-        Did::HoldsNothing => Some(None),
-        _ => None,
-    }
-}
-
 /// Compares the reservation of a hart.
 pub(crate) fn reserves(rt: &impl Abort, core: &Core, h: u8, want: Option<u64>, count: u64) {
     assert!(rt; h < core.harts());
@@ -323,17 +324,41 @@ pub(crate) fn reserves(rt: &impl Abort, core: &Core, h: u8, want: Option<u64>, c
     );
 }
 
+/// Compares whether the walker remembers where an address leads.
+fn remembers(rt: &impl Abort, core: &Core, va: u64, want: bool) {
+    let got = core.walker().remembers(SATP, va);
+    same(rt, &got, &want, "memory of the translation of", va);
+}
+
+/// Clears eight bytes of memory as a device does.
+fn clear(core: &mut Core, at: u64) {
+    if at % 8 == 0 && core.ram().has(at, 8) {
+        core.host_clear(at);
+    }
+}
+
+/// Does what a row says before step `count`, and answers how many steps that is.
+fn follow(rt: &impl Abort, core: &mut Core, fixed: &mut Fixed, row: Row, count: u64) -> u64 {
+    match row.4 {
+        Did::Holds(at) => reserves(rt, core, row.0, Some(at), count),
+        Did::HoldsNothing => reserves(rt, core, row.0, None, count),
+        Did::Remembers(va) => remembers(rt, core, va, true),
+        Did::Forgot(va) => remembers(rt, core, va, false),
+        Did::Clears(at) => clear(core, at),
+        _ => {
+            compare(rt, core, fixed, row, count);
+            return 1;
+        }
+    }
+    0
+}
+
 /// Takes the steps of the rows, from reset on, and compares each.
 pub(crate) fn replay(rt: &impl Abort, mut core: Core, fixed: &mut Fixed, rows: &[Row]) -> Core {
     let mut count = 0u64;
     for &row in rows {
-        match held(row.4) {
-            Some(reservation) => reserves(rt, &core, row.0, reservation, count),
-            None => {
-                compare(rt, &mut core, fixed, row, count);
-                count = count.wrapping_add(1);
-            }
-        }
+        let steps = follow(rt, &mut core, fixed, row, count);
+        count = count.wrapping_add(steps);
     }
     core
 }

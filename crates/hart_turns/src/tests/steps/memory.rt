@@ -1,8 +1,9 @@
 //! Fetches, loads and stores: what answers them, and the exceptions where nothing does.
 
-use crate::tests::steps::Did::{Loaded, Passed, Raised, Stored, Updated, Wrote};
+use crate::tests::steps::Did::{Forgot, Loaded, Passed, Raised, Remembers, Stored, Updated, Wrote};
 use crate::tests::steps::{
-    Before, Did, PLAIN, Row, Word, reserves, run_counted, run_rows, try_in, try_rows, with_data,
+    Before, Did, PLAIN, Row, SATP, Word, reserves, run_counted, run_rows, try_in, try_rows,
+    with_data,
 };
 use hart_step::Priv;
 use hart_step::Priv::{M, S};
@@ -11,8 +12,6 @@ use std::process::Abort;
 
 /// A word in a mode: mstatus and x10 before it, and what the step does.
 type Translated = (Priv, u64, u64, u32, Did);
-
-const SATP: u64 = 0x8000_0000_0008_0001;
 
 fn under_pages(mode: Priv, status: u64, x10: u64) -> Before {
     Before {
@@ -664,7 +663,8 @@ static TRANSLATED: [Translated; 65] = [
 
 /// The second parcel is not mapped; then a page of user mode; then pages that may be executed alone and
 /// read alone, and the console.
-static VIRTUAL_FETCHES: [Row; 46] = [
+static VIRTUAL_FETCHES: [Row; 49] = [
+    (0, M, 0, 0, Forgot(0x4000_0ffe)),
     (0, M, 0x8000_0000, 0x0000_0f97, Wrote(31, 0x8000_0000)), // auipc x31,0
     (0, M, 0x8000_0004, 0x200f_8293, Wrote(5, 0x8000_0200)), // addi x5,x31,0x200
     (0, M, 0x8000_0008, 0x3052_9073, Passed), // csrrw x0,mtvec,x5
@@ -685,6 +685,8 @@ static VIRTUAL_FETCHES: [Row; 46] = [
     (0, M, 0x8000_002c, 0x3003_a073, Passed), // csrrs x0,mstatus,x7
     (0, M, 0x8000_0030, 0x3020_0073, Passed), // mret
     (0, S, 0x4000_0ffe, 0x0000_0000, Raised(12, 0x4000_1000)),
+    (0, M, 0, 0, Remembers(0x4000_0ffe)),
+    (0, M, 0, 0, Forgot(0x4000_1000)),
     (0, M, 0x8000_0200, 0x3420_2473, Wrote(8, 12)), // csrrs x8,mcause,x0
     (0, M, 0x8000_0204, 0x3410_24f3, Wrote(9, 0x4000_0ffe)), // csrrs x9,mepc,x0
     (0, M, 0x8000_0208, 0x3430_2673, Wrote(12, 0x4000_1000)), // csrrs x12,mtval,x0
