@@ -1,5 +1,5 @@
 -- A machine at reset runs, and a job begins as its work asks.
-use Rattle.std.proofs.Common.{◌≡◌, ℕ, zero, suc, ◌+◌, ◌==◌, Bool, true, false, List, [], ◌∷◌, ◌++◌, length, nat_lt, Some, None, is_none, if◌then◌else◌, Result, Ok, Err, IfOk, IsTrue, refl, sym, ap, subst, ◌∙◌, arith}
+use Rattle.std.proofs.Common.{◌≡◌, ℕ, zero, suc, ◌+◌, ◌==◌, Bool, true, false, List, [], ◌∷◌, ◌++◌, length, nat_lt, Option, Some, None, IfSome, is_none, if◌then◌else◌, Result, Ok, Err, IfOk, IsTrue, refl, sym, ap, subst, ◌∙◌, arith}
 use Rattle.std.proofs.lemmas.List.{length-append}
 use Rattle.std.proofs.lemmas.List.Folds.{position_or_len_push}
 use Rattle.std.proofs.lemmas.Bool.{ltb-true}
@@ -9,7 +9,7 @@ use Rattle.csr_file.specs.Kept.{reset_registers}
 use Rattle.hart_step.specs.Harts.{is_in_debug, reset_hart, reset_harts}
 use Rattle.hart_turns.specs.Machine.{MachineState, MachineView, is_running, reset_machine}
 use Rattle.job_words.specs.declared.jobs.Begin.{Begin as NamedBegin}
-use Rattle.job_words.specs.declared.jobs.Begin.TheVariants.{Checkpoint, Config, Image}
+use Rattle.job_words.specs.declared.jobs.Begin.TheVariants.{Checkpoint, Config, Image, Seed}
 use Rattle.job_words.specs.declared.jobs.Work.{Work as NamedWork}
 use Rattle.job_words.specs.declared.jobs.Work.TheVariants as named
 use Rattle.job_words.specs.Seen.{MayBegin, begin_seen, work_seen}
@@ -58,6 +58,14 @@ begins_well (Config file) named.Judge m may is = is
 begins_well (Image file) (named.Turns turns logs) m may is = tt
 begins_well (Image file) (named.Save turns name more) m may is = is
 begins_well (Image file) named.Judge m may is = is
+begins_well (Seed seed) (named.Turns turns logs) m may is = tt
+begins_well (Seed seed) (named.Save turns name more) m may is = is
+begins_well (Seed seed) named.Judge m may is = is
 begins_well (Checkpoint file) (named.Turns turns logs) m may is = tt
 begins_well (Checkpoint file) (named.Save turns name more) m may is = absurd may
 begins_well (Checkpoint file) named.Judge m may is = absurd may
+
+-- what holds whatever is told holds of what is told
+pub told_any : {A : Type 0} (told : Option A) (P : A → Type 0) → ((a : A) → P a) → IfSome told P
+told_any None P always = tt
+told_any (Some a) P always = always a

@@ -1,5 +1,5 @@
 -- What each job does: where its machine begins, and the acts of its work; its status, and its report.
-use Rattle.std.specs.Prelude.{◌≡◌, ◌≢◌, ◌⊎◌, ℕ, ◌==◌, List, [], ◌∷◌, ◌++◌, Option, Some, None, IfSome, Result, Ok, Err, if◌then◌else◌, ⊤}
+use Rattle.std.specs.Prelude.{◌≡◌, ◌≢◌, ◌⊎◌, ℕ, ◌==◌, List, [], ◌∷◌, ◌++◌, Option, Some, None, IfSome, IsSome, Result, Ok, Err, if◌then◌else◌, ⊤}
 use Rattle.outside_io.specs.Content.{Held, IsHeld}
 use Rattle.outside_acts.specs.Acts.{Act, ReadTo, Start}
 use Rattle.outside_acts.specs.Calls.{Only}
@@ -24,7 +24,8 @@ use Rattle.machine_start.specs.declared.start.Start.{Start as StartValue}
 use Rattle.machine_start.specs.declared.fault.StartFault.{StartFault}
 use Rattle.machine_start.specs.Quiet.{HoldsConfig}
 use Rattle.machine_start.specs.Start.{start_of_config, start_from_image}
-use Rattle.job_words.specs.Job.{Begin, FromCheckpoint, FromConfig, FromImage, Job, Judge, Logs, Save, Turns, Work}
+use Rattle.seed_start.specs.Seed.{start_of_seed}
+use Rattle.job_words.specs.Job.{Begin, FromCheckpoint, FromConfig, FromImage, FromSeed, Job, Judge, Logs, Save, Turns, Work}
 use Rattle.stream_judge.specs.Judging.{HasPassed, IsReadTo, stream_verdict}
 use Rattle.turn_runs.specs.Reaching.{log_uses}
 use Rattle.turn_runs.specs.Resuming.{resume_acts}
@@ -64,10 +65,12 @@ abbrev pub restored : Result Checkpoint LoadFault → Result Begun Status
 restored (Ok c) = begun_by_boot (debug_of c) (booted (debug_of c)).left (booted (debug_of c)).fault
 restored (Err fault) = Err (load_status fault)
 
--- what a machine begins with, over what the files hold at the call: no act of a beginning writes a file
+-- what a machine begins with, over what the files hold at the call: no act of a beginning writes a file, and a seed asks
+-- nothing of the files
 abbrev pub begun : Held → Begin → Result Begun Status
 begun held (FromConfig name) = begun_at (start_of_config held name)
 begun held (FromImage name) = begun_at (start_from_image held name)
+begun held (FromSeed seed) = begun_at (Ok (start_of_seed seed))
 begun held (FromCheckpoint name) = restored (checkpoint_of held name)
 
 -- ---- the work, and how it ends
@@ -186,10 +189,11 @@ abbrev pub refusal_of : Option Job → Held → Option Status
 refusal_of None held = Some Usage
 refusal_of (Some job) held = refusal_in (begun held job.begin)
 
--- every file that a beginning reads is held
+-- every file that a beginning reads is held; a seed reads none, and it is told what they hold
 abbrev pub HoldsBegin : Option Held → Begin → Type 0
 HoldsBegin told (FromConfig name) = HoldsConfig told name
 HoldsBegin told (FromImage name) = IsHeld told name
+HoldsBegin told (FromSeed seed) = IsSome told
 HoldsBegin told (FromCheckpoint name) = HoldsCheckpoint told name
 
 -- every file that a job reads is held
@@ -203,10 +207,15 @@ work_uses (Turns turns logs) counted = log_uses logs counted
 work_uses (Save turns name more) counted = save_uses counted
 work_uses Judge counted = Only TheInput counted
 
--- what a job uses: its beginning reads files
+-- what a beginning uses: it reads files, and a seed needs none
+abbrev pub begin_uses : Begin → Counted → Type 0
+begin_uses (FromSeed seed) counted = ⊥
+begin_uses begin counted = counted ≡ Reading
+
+-- what a job uses
 abbrev pub job_uses : Option Job → Counted → Type 0
 job_uses None counted = ⊥
-job_uses (Some job) counted = (counted ≡ Reading) ⊎ work_uses job.work counted
+job_uses (Some job) counted = begin_uses job.begin counted ⊎ work_uses job.work counted
 
 -- what a status needs beside its class: Usage, that the words name no job, BadConfig, that it carries no want of
 -- memory, and BadCheckpoint, that it carries a fault of the files

@@ -2,11 +2,14 @@
 
 ghost use Rattle.std.specs.Prelude.{◌≡◌, ◌≤◌, [], Err, IfErr, IfOk, IfSome, IsTrue, Ok};
 ghost use Rattle.hart_turns.specs.Machine.{is_running};
-ghost use Rattle.job_words.specs.Job.{FromCheckpoint, FromConfig, FromImage};
+ghost use Rattle.outside_io.specs.Content.{Held};
+ghost use Rattle.outside_acts.specs.World.{Reading};
+ghost use Rattle.job_words.specs.Job.{FromCheckpoint, FromConfig, FromImage, FromSeed};
 ghost use Rattle.job_words.specs.Seen.{begin_seen};
 ghost use Rattle.machine_start.specs.Reading.{OnlyReads};
 ghost use Rattle.machine_start.specs.Start.{IsStart};
-ghost use Rattle.dromajo.specs.Jobs.{HoldsBegin, begun, machine_of};
+ghost use Rattle.dromajo.specs.Classes.{IsFault};
+ghost use Rattle.dromajo.specs.Jobs.{HoldsBegin, begin_uses, begun, machine_of};
 ghost use Rattle.dromajo.specs.Works.{BeginsQuietly, IsReset, IsUnbegun, IsUnused, begun_with};
 
 use crate::status::{Status, load_status, start_status};
@@ -15,6 +18,7 @@ use image_saver::{Loaded, load};
 use job_words::Begin;
 use machine_start::{Start, config_start, image_start};
 use outside_io::Files;
+use seed_start::seed_start;
 use std::alloc::Global;
 
 /// The machine of a start, at reset.
@@ -76,6 +80,16 @@ fn begin_image<F: Files>(alloc: Global, name: &str, files: &mut F) -> Result<Mac
     }
 }
 
+/// Makes the machine that a seed stands for. No file is read.
+fn begin_seed(alloc: Global, seed: u64) -> Result<Machine, NoMemory>
+    ensures machine { IfOk result (λ machine. (held : Held) → begun held (FromSeed seed) ≡ Ok (begun_with machine)) }
+    ensures taken { IfOk result (λ machine. machine.machine.taken ≤ 1_000_000_000_000) }
+    ensures running { IfOk result (λ machine. IsTrue (is_running machine.machine)) }
+    ensures unused { IfOk result IsUnused }
+{
+    at_reset(alloc, seed_start(alloc, seed)?)
+}
+
 /// Makes the machine of a checkpoint, by executing its boot ROM.
 fn begin_checkpoint<F: Files>(alloc: Global, name: &str, files: &mut F) -> Result<Machine, Status>
     ensures machine { IfOk result (λ machine. IfSome (F.held files.old) (λ held.
@@ -118,6 +132,7 @@ pub(crate) fn begin<F: Files>(
     ensures taken { IfOk result (λ machine. machine.machine.taken ≤ 1_000_000_000_000) }
     ensures running { IfOk result (λ machine. IsTrue (is_running machine.machine)) }
     ensures reset { IfOk result (IsReset (begin_seen begin.entry)) }
+    ensures uses { IfErr result (λ status. IsFault status → begin_uses (begin_seen begin.entry) Reading) }
     ensures leaves { OnlyReads F.held F.read_faults F.write_faults files.old files.new result }
     ensures calm { F.quiet files.old → HoldsBegin (F.held files.old) (begin_seen begin.entry) →
         BeginsQuietly (F.quiet files.new) result }
@@ -125,6 +140,10 @@ pub(crate) fn begin<F: Files>(
     match begin {
         Begin::Config(name) => begin_config(alloc, name, files),
         Begin::Image(name) => begin_image(alloc, name, files),
+        Begin::Seed(seed) => match begin_seed(alloc, seed) {
+            Ok(machine) => Ok(machine),
+            Err(_) => Err(Status::NoMemory),
+        },
         Begin::Checkpoint(name) => begin_checkpoint(alloc, name, files),
     }
 }

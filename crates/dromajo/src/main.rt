@@ -27,6 +27,8 @@ mod run_tests;
 mod save_fault_tests;
 #[cfg(test)]
 mod save_tests;
+#[cfg(test)]
+mod seed_tests;
 mod status;
 #[cfg(test)]
 mod stream_tests;

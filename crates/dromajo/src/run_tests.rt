@@ -68,7 +68,7 @@ fn an_image_sends_a_letter_in_the_first_turn(rt: HostRuntime) -> Result<(), Fail
 }
 
 // Words that name no job.
-static NO_JOBS: [&str; 80] = [
+static NO_JOBS: [&str; 90] = [
     "run --turns 3",
     "run --image a.bin --turns 1 --turns 2",
     "run --image a.bin --turns 01",
@@ -149,6 +149,16 @@ static NO_JOBS: [&str; 80] = [
     "cosim --config c --config c",
     "cosim --image a.bin",
     "cosim --config c --image a.bin",
+    "run --seed 18446744073709551616 --turns 1",
+    "run --seed 1 --image a.bin --turns 1",
+    "run --config c --seed 1 --turns 1",
+    "run --seed 01 --turns 1",
+    "run --seed  --turns 1",
+    "save --seed 1 --config c --turns 1 --name P",
+    "cosim --seed 1 --config c",
+    "cosim --seed 1 --seed 1",
+    "cosim --seed -1",
+    "load --name P --seed 1 --turns 1",
 ];
 
 // The first call of the files and of the output would fail.

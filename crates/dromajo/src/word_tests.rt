@@ -15,7 +15,7 @@ use std::process::Abort;
 type Parts<'a> = (Begin<'a>, Option<u64>, Option<&'a str>, Option<u64>);
 
 // Words, and the job that they name.
-static JOBS: [(&str, Parts<'static>); 15] = [
+static JOBS: [(&str, Parts<'static>); 19] = [
     (
         "run --image a.bin --turns 1",
         (Begin::Image("a.bin"), Some(1), None, None),
@@ -74,6 +74,19 @@ static JOBS: [(&str, Parts<'static>); 15] = [
         (Begin::Config("--name"), Some(4), Some("--more"), Some(3)),
     ),
     ("cosim --config c", (Begin::Config("c"), None, None, None)),
+    (
+        "run --turns 2 --seed 18446744073709551615",
+        (Begin::Seed(18_446_744_073_709_551_615), Some(2), None, None),
+    ),
+    (
+        "run --seed 0 --trace t --turns 1",
+        (Begin::Seed(0), Some(1), Some("t"), None),
+    ),
+    (
+        "save --seed 15 --name P --turns 3",
+        (Begin::Seed(15), Some(3), Some("P"), Some(0)),
+    ),
+    ("cosim --seed 7", (Begin::Seed(7), None, None, None)),
     (
         "cosim --config --config",
         (Begin::Config("--config"), None, None, None),

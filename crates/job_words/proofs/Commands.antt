@@ -5,7 +5,7 @@ use Rattle.std.specs.Option.{option_and_then}
 use Rattle.std.specs.Str.{bytes_eq}
 use Rattle.std.proofs.lemmas.List.{drop_all}
 use Rattle.job_words.specs.declared.jobs.Begin.{Begin as NamedBegin}
-use Rattle.job_words.specs.declared.jobs.Begin.TheVariants.{Checkpoint, Config, Image}
+use Rattle.job_words.specs.declared.jobs.Begin.TheVariants.{Checkpoint, Config, Image, Seed}
 use Rattle.job_words.specs.declared.jobs.Work.TheVariants as named
 use Rattle.job_words.specs.Job.{Job, Logs}
 use Rattle.job_words.specs.Seen.{MayBegin}
@@ -64,4 +64,5 @@ row_found row values words size is =
 pub turns_anywhere : (turns : ℕ) (logs : Logs) (begin : NamedBegin) → MayBegin begin (named.Turns turns logs)
 turns_anywhere turns logs (Config name) = tt
 turns_anywhere turns logs (Image name) = tt
+turns_anywhere turns logs (Seed seed) = tt
 turns_anywhere turns logs (Checkpoint name) = tt

@@ -7,13 +7,17 @@ use Rattle.std.specs.List.{list_all, list_any}
 use Rattle.std.specs.Option.{option_map, option_and_then}
 use Rattle.std.specs.Str.{bytes_eq}
 use Rattle.std.specs.Str.Parse.{digits_value}
-use Rattle.job_words.specs.Job.{Begin, FromCheckpoint, FromConfig, FromImage, Job, Judge, Logs, Save, Turns, Work}
+use Rattle.job_words.specs.Job.{Begin, FromCheckpoint, FromConfig, FromImage, FromSeed, Job, Judge, Logs, Save, Turns, Work}
 
 -- ---- values
 
 -- the greatest number of turns
 abbrev pub most_turns : ℕ
 most_turns = 1000000000
+
+-- the greatest seed
+abbrev pub most_seed : ℕ
+most_seed = 18446744073709551615
 
 -- decimal digits without a sign and without a leading zero
 abbrev pub is_number : List ℕ → Bool
@@ -75,13 +79,18 @@ found_in names given (name ∷ value ∷ words) = if may_be_given names given na
 abbrev pub at_file : (List ℕ → Begin) → List ℕ → Option Begin
 at_file begin text = option_map begin (name_in text)
 
--- exactly one of a configuration and a flat image
-abbrev pub run_begin : Option (List ℕ) → Option (List ℕ) → Option Begin
-run_begin config image = one (read_as (at_file FromConfig) config ++ read_as (at_file FromImage) image)
+-- a beginning at the seed that a text spells
+abbrev pub at_seed : List ℕ → Option Begin
+at_seed text = option_map FromSeed (number_in most_seed text)
 
--- exactly one configuration
-abbrev pub config_begin : Option (List ℕ) → Option Begin
-config_begin config = one (read_as (at_file FromConfig) config)
+-- exactly one of a configuration, a flat image and a seed
+abbrev pub run_begin : Option (List ℕ) → Option (List ℕ) → Option (List ℕ) → Option Begin
+run_begin config image seed =
+    one (read_as (at_file FromConfig) config ++ (read_as (at_file FromImage) image ++ read_as at_seed seed))
+
+-- exactly one of a configuration and a seed
+abbrev pub reset_begin : Option (List ℕ) → Option (List ℕ) → Option Begin
+reset_begin config seed = one (read_as (at_file FromConfig) config ++ read_as at_seed seed)
 
 -- exactly one checkpoint
 abbrev pub load_begin : Option (List ℕ) → Option Begin
@@ -134,8 +143,8 @@ pub record Row : Type 0 where
 abbrev pub run_row : Row
 run_row = record {
   word = codes "run";
-  names = codes "--turns" ∷ codes "--config" ∷ codes "--image" ∷ codes "--trace" ∷ [];
-  begin = λ v. run_begin (v (codes "--config")) (v (codes "--image"));
+  names = codes "--turns" ∷ codes "--config" ∷ codes "--image" ∷ codes "--seed" ∷ codes "--trace" ∷ [];
+  begin = λ v. run_begin (v (codes "--config")) (v (codes "--image")) (v (codes "--seed"));
   work = λ v. turns_work (v (codes "--turns")) (v (codes "--trace"));
 }
 
@@ -150,16 +159,16 @@ load_row = record {
 abbrev pub save_row : Row
 save_row = record {
   word = codes "save";
-  names = codes "--turns" ∷ codes "--name" ∷ codes "--more" ∷ codes "--config" ∷ [];
-  begin = λ v. config_begin (v (codes "--config"));
+  names = codes "--turns" ∷ codes "--name" ∷ codes "--more" ∷ codes "--config" ∷ codes "--seed" ∷ [];
+  begin = λ v. reset_begin (v (codes "--config")) (v (codes "--seed"));
   work = λ v. save_work (v (codes "--turns")) (v (codes "--name")) (v (codes "--more"));
 }
 
 abbrev pub cosim_row : Row
 cosim_row = record {
   word = codes "cosim";
-  names = codes "--config" ∷ [];
-  begin = λ v. config_begin (v (codes "--config"));
+  names = codes "--config" ∷ codes "--seed" ∷ [];
+  begin = λ v. reset_begin (v (codes "--config")) (v (codes "--seed"));
   work = λ v. Some Judge;
 }
 

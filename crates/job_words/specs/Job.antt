@@ -1,10 +1,12 @@
 -- A job: where a machine begins, and what is done with it.
 use Rattle.std.specs.Prelude.{ℕ, List, Option}
 
--- where a machine begins: at a configuration or a flat image, by the file's name, or at a checkpoint, by its name
+-- where a machine begins: at a configuration or a flat image, by the file's name, at a seed, or at a checkpoint, by its
+-- name
 pub data Begin : Type 0 where
   FromConfig : List ℕ → Begin
   FromImage : List ℕ → Begin
+  FromSeed : ℕ → Begin
   FromCheckpoint : List ℕ → Begin
 
 -- the files that a run logs to, by their names: the trace, if one is given

@@ -2,11 +2,11 @@
 use Rattle.std.specs.Prelude.{◌≤◌, ⊤, ℕ, List}
 use Rattle.std.specs.Borrow.{Bor}
 use Rattle.job_words.specs.declared.jobs.Begin.{Begin as NamedBegin}
-use Rattle.job_words.specs.declared.jobs.Begin.TheVariants.{Checkpoint, Config, Image}
+use Rattle.job_words.specs.declared.jobs.Begin.TheVariants.{Checkpoint, Config, Image, Seed}
 use Rattle.job_words.specs.declared.jobs.Work.{Work as NamedWork}
 use Rattle.job_words.specs.declared.jobs.Work.TheVariants as named
 use Rattle.job_words.specs.declared.jobs.Job.{Job as NamedJob}
-use Rattle.job_words.specs.Job.{Begin, FromCheckpoint, FromConfig, FromImage, Job, Judge, Save, Turns, Work}
+use Rattle.job_words.specs.Job.{Begin, FromCheckpoint, FromConfig, FromImage, FromSeed, Job, Judge, Save, Turns, Work}
 use Rattle.job_words.specs.CommandLine.{most_turns}
 
 abbrev pub text_seen : Bor (List ℕ) → List ℕ
@@ -15,6 +15,7 @@ text_seen text = text.now
 abbrev pub begin_seen : NamedBegin → Begin
 begin_seen (Config name) = FromConfig (text_seen name)
 begin_seen (Image name) = FromImage (text_seen name)
+begin_seen (Seed seed) = FromSeed seed
 begin_seen (Checkpoint name) = FromCheckpoint (text_seen name)
 
 abbrev pub work_seen : NamedWork → Work
@@ -35,6 +36,7 @@ MakesFewTurns named.Judge = ⊤
 abbrev pub MayBegin : NamedBegin → NamedWork → Type 0
 MayBegin (Config name) work = ⊤
 MayBegin (Image name) work = ⊤
+MayBegin (Seed seed) work = ⊤
 MayBegin (Checkpoint name) (named.Turns turns logs) = ⊤
 MayBegin (Checkpoint name) work = ⊥
 

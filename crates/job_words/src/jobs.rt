@@ -5,13 +5,15 @@ ghost use Rattle.std.specs.Option.{option_copied};
 
 use std::marker::Model;
 
-/// Where a machine begins, by the name of a file or of a checkpoint.
+/// Where a machine begins, by the name of a file or of a checkpoint, or by a seed.
 #[derive(Clone, Copy, PartialEq, Eq, Debug)]
 pub enum Begin<'a> {
     /// At a configuration and its program.
     Config(&'a str),
     /// At a flat image.
     Image(&'a str),
+    /// At the machine and program that a seed stands for.
+    Seed(u64),
     /// At a checkpoint, whose boot ROM is executed.
     Checkpoint(&'a str),
 }

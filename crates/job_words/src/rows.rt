@@ -2,13 +2,14 @@
 
 ghost use Rattle.std.specs.Prelude.{◌≡◌, ◌≤◌, IfSome};
 ghost use Rattle.std.specs.Option.{option_copied, option_map};
-ghost use Rattle.job_words.specs.CommandLine.{config_begin, cosim_row, job_of, job_with, load_begin, load_row, logs_in, more_in, most_turns, row_job, run_begin, run_row, save_row, save_work, texts, turns_work};
+ghost use Rattle.job_words.specs.CommandLine.{at_file, at_seed, cosim_row, job_of, job_with, load_begin, load_row, logs_in, more_in, most_turns, reset_begin, row_job, run_begin, run_row, save_row, save_work, texts, turns_work};
 ghost use Rattle.job_words.specs.declared.jobs.Begin.{Begin as NamedBegin};
 ghost use Rattle.job_words.specs.declared.jobs.Work.{Work as NamedWork};
+ghost use Rattle.job_words.specs.Job.{FromConfig, FromImage};
 ghost use Rattle.job_words.specs.Seen.{IsNamed, MakesFewTurns, MayBegin, begin_seen, job_seen, work_seen};
 
 use crate::jobs::{Begin, Job, Logs, Work};
-use crate::values::{MOST_TURNS, file_name, number};
+use crate::values::{MOST_SEED, MOST_TURNS, file_name, number};
 use crate::walk::walk;
 
 /// The job that the words name, none where they name no job.
@@ -31,13 +32,13 @@ fn run_job(words: &[String]) -> Option<Job<'_>>
     ensures job { option_map job_seen result ≡ row_job run_row (texts words.now) }
     ensures named { IfSome result IsNamed }
 {
-    let names = ["--turns", "--config", "--image", "--trace"];
-    let mut values = [None; 4];
+    let names = ["--turns", "--config", "--image", "--seed", "--trace"];
+    let mut values = [None; 5];
     if !walk(&names, words, &mut values) {
         return None;
     }
-    let [turns, config, image, trace] = values;
-    job_with(run_begin(config, image), turns_work(turns, trace))
+    let [turns, config, image, seed, trace] = values;
+    job_with(run_begin(config, image, seed), turns_work(turns, trace))
 }
 
 /// The job of the words after `load`.
@@ -59,13 +60,13 @@ fn save_job(words: &[String]) -> Option<Job<'_>>
     ensures job { option_map job_seen result ≡ row_job save_row (texts words.now) }
     ensures named { IfSome result IsNamed }
 {
-    let names = ["--turns", "--name", "--more", "--config"];
-    let mut values = [None; 4];
+    let names = ["--turns", "--name", "--more", "--config", "--seed"];
+    let mut values = [None; 5];
     if !walk(&names, words, &mut values) {
         return None;
     }
-    let [turns, name, more, config] = values;
-    job_with(config_begin(config), save_work(turns, name, more))
+    let [turns, name, more, config, seed] = values;
+    job_with(reset_begin(config, seed), save_work(turns, name, more))
 }
 
 /// The job of the words after `cosim`.
@@ -73,13 +74,13 @@ fn cosim_job(words: &[String]) -> Option<Job<'_>>
     ensures job { option_map job_seen result ≡ row_job cosim_row (texts words.now) }
     ensures named { IfSome result IsNamed }
 {
-    let names = ["--config"];
-    let mut values = [None; 1];
+    let names = ["--config", "--seed"];
+    let mut values = [None; 2];
     if !walk(&names, words, &mut values) {
         return None;
     }
-    let [config] = values;
-    job_with(config_begin(config), Some(Work::Judge))
+    let [config, seed] = values;
+    job_with(reset_begin(config, seed), Some(Work::Judge))
 }
 
 /// The job of these parts, where both are there.
@@ -96,23 +97,56 @@ fn job_with<'a>(begin: Option<Begin<'a>>, work: Option<Work<'a>>) -> Option<Job<
     })
 }
 
-/// The one beginning among a configuration and a flat image.
-fn run_begin<'a>(config: Option<&'a str>, image: Option<&'a str>) -> Option<Begin<'a>>
-    ensures { option_map begin_seen result ≡ run_begin (option_copied config.entry) (option_copied image.entry) }
+/// The one beginning among a configuration, a flat image and a seed.
+fn run_begin<'a>(
+    config: Option<&'a str>,
+    image: Option<&'a str>,
+    seed: Option<&'a str>,
+) -> Option<Begin<'a>>
+    ensures { option_map begin_seen result
+        ≡ run_begin (option_copied config.entry) (option_copied image.entry) (option_copied seed.entry) }
 {
-    match (config, image) {
-        (Some(config), None) => Some(Begin::Config(file_name(config)?)),
-        (None, Some(image)) => Some(Begin::Image(file_name(image)?)),
+    match (config, image, seed) {
+        (Some(config), None, None) => config_begin(config),
+        (None, Some(image), None) => image_begin(image),
+        (None, None, Some(seed)) => seed_begin(seed),
+        _ => None,
+    }
+}
+
+/// The one beginning among a configuration and a seed.
+fn reset_begin<'a>(config: Option<&'a str>, seed: Option<&'a str>) -> Option<Begin<'a>>
+    ensures begin { option_map begin_seen result ≡ reset_begin (option_copied config.entry) (option_copied seed.entry) }
+    ensures reset { IfSome result (λ begin. (work : NamedWork) → MayBegin begin work) }
+{
+    match (config, seed) {
+        (Some(config), None) => config_begin(config),
+        (None, Some(seed)) => seed_begin(seed),
         (Some(_), Some(_)) | (None, None) => None,
     }
 }
 
 /// The configuration of this name.
-fn config_begin<'a>(config: Option<&'a str>) -> Option<Begin<'a>>
-    ensures begin { option_map begin_seen result ≡ config_begin (option_copied config.entry) }
+fn config_begin<'a>(config: &'a str) -> Option<Begin<'a>>
+    ensures begin { option_map begin_seen result ≡ at_file FromConfig config.now }
     ensures reset { IfSome result (λ begin. (work : NamedWork) → MayBegin begin work) }
 {
-    Some(Begin::Config(file_name(config?)?))
+    Some(Begin::Config(file_name(config)?))
+}
+
+/// The flat image of this name.
+fn image_begin<'a>(image: &'a str) -> Option<Begin<'a>>
+    ensures { option_map begin_seen result ≡ at_file FromImage image.now }
+{
+    Some(Begin::Image(file_name(image)?))
+}
+
+/// The seed that a text spells.
+fn seed_begin<'a>(seed: &str) -> Option<Begin<'a>>
+    ensures begin { option_map begin_seen result ≡ at_seed seed.now }
+    ensures reset { IfSome result (λ begin. (work : NamedWork) → MayBegin begin work) }
+{
+    Some(Begin::Seed(number(seed, MOST_SEED)?))
 }
 
 /// The checkpoint of this name.

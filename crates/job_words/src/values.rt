@@ -9,6 +9,9 @@ ghost use Rattle.job_words.specs.CommandLine.{is_number, name_in, number_in};
 /// The most turns that one call may make.
 pub const MOST_TURNS: u64 = 1_000_000_000;
 
+/// The greatest seed.
+pub(crate) const MOST_SEED: u64 = u64::MAX;
+
 /// Whether each byte is a decimal digit.
 fn all_digits(bytes: &[u8]) -> bool
     ensures { result ≡ list_all is_ascii_digit bytes.now }

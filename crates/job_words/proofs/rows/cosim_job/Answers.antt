@@ -10,4 +10,4 @@ returns-then-not-walk-clause-job c = sym (row_refused cosim_row (texts c.args.wo
 pub returns-clause-job : goal.returns-clause-job
 returns-clause-job c =
     let found = row_found cosim_row c.walk.new.values (texts c.args.words.now) c.walk.auto.values (c.walk.ensures.all c.if-not-walk.false) in
-    cc (found, c.job_with.ensures.job, c.config_begin.ensures.begin)
+    cc (found, c.job_with.ensures.job, c.reset_begin.ensures.begin)

@@ -1,0 +1,13 @@
+//! The machine and the program that a seed stands for, so that a run needs no file.
+//!
+//! The program is a loop of 200 instructions that are drawn by a linear congruential generator, over data
+//! that all harts share. Which instruction is drawn at a number is defined in `specs/Seed.antt`.
+#![tactic(auto)]
+
+mod program;
+mod start;
+#[cfg(test)]
+mod tests;
+mod words;
+
+pub use start::{NoMemory, seed_start};
