@@ -60,12 +60,15 @@ fence_mask w u is_u =
     let low : w % 2 ^ 25 % 2 ^ 15 ≡ w % 2 ^ 15 = omega arith in
     topped 25 7 0x7fff w (omega arith) ∙ ap₂ (λ x y. x * 2 ^ 25 + y) upper (and_mask (w % 2 ^ 25) 15 ∙ low)
 
+-- quadrant and funct3 of a compressed word
+pub key_mask : (c : ℕ) → bit_and c 0xe003 ≡ c / 2 ^ 13 % 2 ^ 3 * 2 ^ 13 + c % 2 ^ 13 % 2 ^ 2
+key_mask c = topped 13 3 3 c (omega arith) ∙ ap (λ x. c / 2 ^ 13 % 2 ^ 3 * 2 ^ 13 + x) (and_mask (c % 2 ^ 13) 2)
+
 -- quadrant and funct3 of a compressed word together with its rd are its bits under one mask
 pub stack_mask : (c : ℕ) → bit_and c 0xe003 ≡ 0x6001 → bit_and c 0xf80 ≡ 0x100 → bit_and c 0xef83 ≡ 0x6101
 stack_mask c is_key is_rd =
-    let key : bit_and c 0xe003 ≡ c / 2 ^ 13 % 2 ^ 3 * 2 ^ 13 + c % 2 ^ 13 % 2 ^ 2 = topped 13 3 3 c (omega arith) ∙ ap (λ x. c / 2 ^ 13 % 2 ^ 3 * 2 ^ 13 + x) (and_mask (c % 2 ^ 13) 2) in
     let rd : bit_and c 0xf80 ≡ c / 2 ^ 7 % 2 ^ 5 * 2 ^ 7 + bit_and (c % 2 ^ 7) 0 = topped 7 5 0 c (omega arith) in
     let nothing : bit_and (c % 2 ^ 7) 0 ≡ 0 = and_zero_r (c % 2 ^ 7) in
     let low : bit_and (c % 2 ^ 13) 0xf83 ≡ c % 2 ^ 13 / 2 ^ 7 % 2 ^ 5 * 2 ^ 7 + c % 2 ^ 13 % 2 ^ 7 % 2 ^ 2 = topped 7 5 3 (c % 2 ^ 13) (omega arith) ∙ ap (λ x. c % 2 ^ 13 / 2 ^ 7 % 2 ^ 5 * 2 ^ 7 + x) (and_mask (c % 2 ^ 13 % 2 ^ 7) 2) in
     let whole : bit_and c 0xef83 ≡ c / 2 ^ 13 % 2 ^ 3 * 2 ^ 13 + bit_and (c % 2 ^ 13) 0xf83 = topped 13 3 0xf83 c (omega arith) in
-    omega (arith, key, rd, nothing, low, whole)
+    omega (arith, key_mask c, rd, nothing, low, whole)

@@ -1,7 +1,7 @@
 //! Expanding a 16-bit compressed word: by its quadrant and funct3, then by the further fixed bits, in
 //! the order of the table.
 
-ghost use Rattle.std.specs.Prelude.{◌≡◌, IfSome, bit_and};
+ghost use Rattle.std.specs.Prelude.{◌≡◌, ◌+◌, ◌*◌, ◌/◌, ◌%◌, ◌<◌, IfSome, bit_and};
 ghost use Rattle.rv_decode.specs.Compressed.{expanded, forms_at, word_decoded};
 ghost use Rattle.rv_decode.specs.Ranges.{IsInRange};
 ghost use Rattle.rv_decode.specs.Words.{decoded_by};
@@ -272,6 +272,18 @@ fn sdsp(c: u32) -> Option<Insn>
     Some(Insn::Sd { rs1: 2, rs2, imm })
 }
 
+/// A word's quadrant and funct3 as one number, the quadrant above: the word, turned by three places, has
+/// them side by side, and of such small numbers the compiler makes a table of jumps.
+#[inline(always)]
+fn quadrant_and_funct3(c: u32) -> u16
+    requires { c < 0x1_0000 }
+    ensures key { bit_and c 0xe003 ≡ result % 8 * 0x2000 + result / 8 }
+    ensures below { result < 32 }
+{
+    let c = c as u16;
+    ((c << 3) + (c >> 13)) % 32
+}
+
 /// The instruction that a 16-bit word stands for, or `None` where no form of the table matches it: the
 /// reserved and the floating-point forms, and each word whose two low bits are 11. It is what `decode`
 /// gives for the 32-bit word of the same instruction.
@@ -282,26 +294,26 @@ pub fn expand(c: u16) -> Option<Insn>
     ensures in_range { IfSome result IsInRange }
 {
     let c = u32::from(c);
-    match c & 0xe003 {
-        0x0 => addi4spn(c),
-        0x4000 => lw(c),
-        0x6000 => ld(c),
-        0xc000 => sw(c),
-        0xe000 => sd(c),
-        0x1 => addi(c),
-        0x2001 => addiw(c),
-        0x4001 => li(c),
-        0x6001 => addi16sp_or_lui(c),
-        0x8001 => arithmetic(c),
-        0xa001 => j(c),
-        0xc001 => beqz(c),
-        0xe001 => bnez(c),
-        0x2 => slli(c),
-        0x4002 => lwsp(c),
-        0x6002 => ldsp(c),
-        0x8002 => registers(c),
-        0xc002 => swsp(c),
-        0xe002 => sdsp(c),
+    match quadrant_and_funct3(c) {
+        0b00_000 => addi4spn(c),
+        0b00_010 => lw(c),
+        0b00_011 => ld(c),
+        0b00_110 => sw(c),
+        0b00_111 => sd(c),
+        0b01_000 => addi(c),
+        0b01_001 => addiw(c),
+        0b01_010 => li(c),
+        0b01_011 => addi16sp_or_lui(c),
+        0b01_100 => arithmetic(c),
+        0b01_101 => j(c),
+        0b01_110 => beqz(c),
+        0b01_111 => bnez(c),
+        0b10_000 => slli(c),
+        0b10_010 => lwsp(c),
+        0b10_011 => ldsp(c),
+        0b10_100 => registers(c),
+        0b10_110 => swsp(c),
+        0b10_111 => sdsp(c),
         _ => None,
     }
 }

@@ -100,7 +100,9 @@ fn word_immediate_of(w: u32) -> Option<Insn>
     }
 }
 
-/// An operation on two registers.
+/// An operation on two registers. It is inlined, since a call that answers an instruction by memory would keep
+/// what is decoded there in memory too.
+#[inline(always)]
 fn register_of(w: u32) -> Option<Insn>
     ensures row { result ≡ decoded_by (register_rows ++ product_rows) w }
     ensures in_range { IfSome result IsInRange }
@@ -163,7 +165,18 @@ fn fence_of(w: u32) -> Option<Insn>
 }
 
 /// A system instruction.
+#[inline(always)]
 fn system_of(w: u32) -> Option<Insn>
+    ensures row { result ≡ decoded_by (csr_rows ++ csr_immediate_rows ++ system_rows ++ sfence_rows) w }
+    ensures in_range { IfSome result IsInRange }
+{
+    system_rows_of(w)
+}
+
+/// The same, in a call. The place of what it answers is in the function above alone, so that what is decoded
+/// elsewhere stays in registers.
+#[inline(never)]
+fn system_rows_of(w: u32) -> Option<Insn>
     ensures row { result ≡ decoded_by (csr_rows ++ csr_immediate_rows ++ system_rows ++ sfence_rows) w }
     ensures in_range { IfSome result IsInRange }
 {
@@ -191,7 +204,17 @@ fn system_of(w: u32) -> Option<Insn>
 }
 
 /// An atomic memory instruction.
+#[inline(always)]
 fn atomic_of(w: u32) -> Option<Insn>
+    ensures row { result ≡ decoded_by (reserve_rows ++ atomic_word_rows ++ atomic_double_rows) w }
+    ensures in_range { IfSome result IsInRange }
+{
+    atomic_rows_of(w)
+}
+
+/// The same, in a call, as with a system instruction.
+#[inline(never)]
+fn atomic_rows_of(w: u32) -> Option<Insn>
     ensures row { result ≡ decoded_by (reserve_rows ++ atomic_word_rows ++ atomic_double_rows) w }
     ensures in_range { IfSome result IsInRange }
 {
