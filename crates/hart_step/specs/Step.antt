@@ -15,6 +15,7 @@ use Rattle.hart_step.specs.declared.event.Event.{Event}
 use Rattle.hart_step.specs.declared.event.Put.{Put}
 use Rattle.hart_step.specs.declared.event.Event.TheVariants.{Commit, Exception as Raised, Interrupt}
 use Rattle.hart_step.specs.declared.hart.Hart.{Hart}
+use Rattle.hart_step.specs.Events.{IsEvent}
 use Rattle.hart_step.specs.Answers.{Access, Given, Untouched, after_access}
 use Rattle.hart_step.specs.Harts.{CoreState, hart_of, is_in_debug, privilege_of}
 use Rattle.hart_step.specs.Memory.{◌>>=◌, Exception, MemoryState, access_cause, acting_mode, exception, physical, rom_holds, rom_number}
@@ -155,11 +156,12 @@ step_after None given n h hart memory = instruction_step given n h hart memory
 unfoldable pub hart_step : Given → ℕ → ℕ → Hart → MemoryState → HartAnswer
 hart_step given n h hart memory = step_after given.interrupt given n h hart memory
 
--- the hart, memory, the event, what was stored and the surroundings are what a step of hart h says
-pub record StepLeaves {A : Type 0} (after : A → ℕ → List ℕ → Access → A) (old new : A) (h : ℕ) (hart : Hart) (memory : MemoryState) (event : Event) (put : Option Put) (a : HartAnswer) : Type 0 where
+-- the hart, memory, the event that is shown, what was stored and the surroundings are what a step of hart h says
+pub record StepLeaves {A : Type 0} (after : A → ℕ → List ℕ → Access → A) (old new : A) (h : ℕ) (hart : Hart) (memory : MemoryState) (shows : Event → Type 0) (put : Option Put) (a : HartAnswer) : Type 0 where
   pub hart_is : hart ≡ a.hart
   pub memory_is : memory ≡ a.memory
-  pub event_is : event ≡ a.event
+  pub shown : shows a.event
+  pub formed : IsEvent a.event
   pub stored_is : put ≡ a.stored
   pub outside : new ≡ after_access after old h a.memory.ram a.access
 

@@ -16,6 +16,7 @@ use crate::event::{Event, Put};
 use crate::fit::{see_bytes, see_hart};
 use crate::hart::Hart;
 use crate::memory::Memory;
+use crate::shows::{Shows, Unseen};
 use crate::stepping::step_hart;
 use guest_ram::GuestRam;
 use std::alloc::{AllocError, Global};
@@ -212,10 +213,33 @@ impl Core {
         ensures { CoreLeaves A.after answers.old answers.new h self.old self.new event.new
             (step_by (A.says answers.old h) self.old h) }
     {
+        self.step_over(h, answers, event);
+    }
+
+    /// Takes one step of hart `h`, and shows nothing of it.
+    #[inline(always)]
+    pub fn step_unseen<A: Answers>(&mut self, h: u8, answers: &mut A)
+        requires hart { h < length self.old.harts }
+        requires ready { A.ready answers.old h }
+        ensures { CoreLeaves A.after answers.old answers.new h self.old self.new (step_by (A.says answers.old h) self.old h).event
+            (step_by (A.says answers.old h) self.old h) }
+    {
+        self.step_over(h, answers, &mut Unseen {});
+    }
+
+    /// Takes one step of hart `h`, and shows it in a place.
+    #[inline(always)]
+    fn step_over<A: Answers, S: Shows>(&mut self, h: u8, answers: &mut A, place: &mut S)
+        requires hart { h < length self.old.harts }
+        requires ready { A.ready answers.old h }
+        ensures shown { S.shows place.new (step_by (A.says answers.old h) self.old h).event }
+        ensures leaves { CoreLeaves A.after answers.old answers.new h self.old self.new (step_by (A.says answers.old h) self.old h).event
+            (step_by (A.says answers.old h) self.old h) }
+    {
         let count = self.harts();
         let hart = &mut self.harts[h as usize];
         let was_in_debug = hart.is_in_debug();
-        let stored = step_hart(h, count, hart, &mut self.memory, answers, event);
+        let stored = step_hart(h, count, hart, &mut self.memory, answers, place);
         see_hart(hart);
         let left_debug = has_left_debug(was_in_debug, hart);
         lose_reservations(&mut self.harts, h, stored);

@@ -6,7 +6,8 @@ ghost use Rattle.hart_step.specs.declared.event.Event.TheVariants.{Commit};
 ghost use Rattle.hart_step.specs.Events.{IsDone, IsEvent, IsWritten};
 ghost use Rattle.hart_step.specs.Harts.{shown_register};
 
-use crate::event::{Event, Priv, Put};
+use crate::event::{Priv, Put};
+use crate::shows::Shows;
 use std::marker::Model;
 
 /// The register that an instruction wrote with its new value, and x0 where it wrote none. The number is a
@@ -53,7 +54,7 @@ impl Written {
 
     /// The same as an event shows it.
     #[inline(always)]
-    fn shown(self) -> Option<(u8, u64)>
+    pub(crate) fn shown(self) -> Option<(u8, u64)>
         requires { IsWritten self }
         ensures { result ≡ self }
     {
@@ -66,7 +67,7 @@ impl Written {
 
     /// Writes the same where an event shows it.
     #[inline(always)]
-    fn show(self, rd: &mut Option<(u8, u64)>)
+    pub(crate) fn show(self, rd: &mut Option<(u8, u64)>)
         requires { IsWritten self }
         ensures { rd.new ≡ self }
     {
@@ -204,12 +205,12 @@ impl Done {
         }
     }
 
-    /// Writes the commit of the word `insn` in the place of another event, and gives the control and status
-    /// register that was written, and what was stored.
+    /// Shows the commit of the word `insn`, and gives the control and status register that was written, and
+    /// what was stored.
     #[inline(always)]
-    pub(crate) fn show(
+    pub(crate) fn show<S: Shows>(
         self,
-        event: &mut Event,
+        place: &mut S,
         hart: u8,
         mode: Priv,
         pc: u64,
@@ -217,92 +218,25 @@ impl Done {
     ) -> (Option<u16>, Option<Put>)
         requires number { hart < 8 }
         requires formed { IsDone self }
-        ensures event { event.new ≡ Commit hart mode pc insn self.rd self.st self.dv self.vl }
-        ensures formed { IsEvent event.new }
+        ensures shown { S.shows place.new (Commit hart mode pc insn self.rd self.st self.dv self.vl) }
+        ensures formed { IsEvent (Commit hart mode pc insn self.rd self.st self.dv self.vl) }
         ensures wrote { result.0 ≡ self.wrote }
         ensures stored { result.1 ≡ self.st }
     {
         match self.kind {
             DoneKind::Register(rd) => {
-                show_register(event, hart, mode, pc, insn, rd);
+                place.register(hart, mode, pc, insn, rd);
                 (None, None)
             }
             DoneKind::Store(rd, st) => {
                 let put = st.put();
-                *event = Event::Commit {
-                    hart,
-                    mode,
-                    pc,
-                    insn,
-                    rd: rd.shown(),
-                    st: Some(put),
-                    dv: None,
-                    vl: None,
-                };
+                place.store(hart, mode, pc, insn, rd, put);
                 (None, Some(put))
             }
             DoneKind::Access { rd, dv, vl, wrote } => {
-                *event = Event::Commit {
-                    hart,
-                    mode,
-                    pc,
-                    insn,
-                    rd: rd.shown(),
-                    st: None,
-                    dv,
-                    vl,
-                };
+                place.access(hart, mode, pc, insn, rd, dv, vl);
                 (wrote, None)
             }
         }
     }
-}
-
-/// Writes a commit that shows a register at the most in the place of another event: field by field where
-/// that is a commit too.
-#[inline(always)]
-fn show_register(
-    event: &mut Event,
-    number: u8,
-    privilege: Priv,
-    at: u64,
-    word: u32,
-    written: Written,
-)
-    requires number { number < 8 }
-    requires formed { IsWritten written }
-    ensures event { event.new ≡ Commit number privilege at word written None None None }
-    ensures formed { IsEvent event.new }
-{
-    if let Event::Commit {
-        hart,
-        mode,
-        pc,
-        insn,
-        rd,
-        st,
-        dv,
-        vl,
-    } = event
-    {
-        *hart = number;
-        *mode = privilege;
-        *pc = at;
-        *insn = word;
-        written.show(rd);
-        *st = None;
-        *dv = None;
-        *vl = None;
-        return;
-    }
-    *event = Event::Commit {
-        hart: number,
-        mode: privilege,
-        pc: at,
-        insn: word,
-        rd: written.shown(),
-        st: None,
-        dv: None,
-        vl: None,
-    };
 }

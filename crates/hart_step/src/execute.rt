@@ -17,16 +17,18 @@ use crate::done::Done;
 use crate::exception::Exception;
 use crate::hart::Hart;
 use crate::memory::Memory;
+use crate::shows::Shows;
 use crate::system::{return_debug, return_machine, return_supervisor};
 use crate::zicsr::{clear_csr, set_csr, write_csr};
 use rv_alu::{AmoOp, BinOp, CondOp, MulOp};
 use rv_decode::Insn;
 
 /// Carries out the instruction at a site on its hart and memory, or answers the exception that it
-/// raises; then nothing has changed.
+/// raises; then nothing has changed. Each kind `S` of places has an `execute` of its own, which then has one
+/// caller, and so is inlined there.
 #[tactic(auto, unfolding(crate::specs::Effects::effect))]
 #[inline(always)]
-pub(crate) fn execute<A: Answers>(
+pub(crate) fn execute<A: Answers, S: Shows>(
     site: Site,
     insn: Insn,
     hart: &mut Hart,

@@ -52,7 +52,7 @@ pub(crate) fn fetch(hart: &Hart, memory: &mut Memory) -> Result<u32, Exception>
     ensures word { begun_by result ≡ fetched hart.now memory.old }
     ensures same { memory.new ≡ memory.old }
 {
-    if hart.mode == Mode::M && memory.holds(hart.pc, 4) {
+    if hart.mode == Mode::M && memory.has_eight(hart.pc, 4) {
         let parcels = memory.parcels(hart.pc);
         see_parcel(hart, memory, hart.pc);
         see_parcel(hart, memory, hart.pc.wrapping_add(2));

@@ -20,6 +20,7 @@ mod laws;
 mod memory;
 mod mode;
 mod registers;
+mod shows;
 mod stepping;
 mod system;
 mod zicsr;

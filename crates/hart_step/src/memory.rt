@@ -30,12 +30,14 @@ pub(crate) const ROM_BASE: u64 = 0x1_0000;
 #[derive(Drop)]
 pub(crate) struct Memory {
     ram: GuestRam,
+    // from how many addresses on RAM holds eight bytes
+    eights: u64,
     rom: Vec<u8>,
     walker: Walker,
 }
 
 impl Model for Memory {
-    ghost use Rattle.std.specs.Prelude.{◌≤◌, length};
+    ghost use Rattle.std.specs.Prelude.{◌≡◌, ◌-◌, ◌≤◌, length};
     ghost use Rattle.sv39_walk.specs.Remembered.{Agrees};
     ghost use Rattle.hart_step.specs.Memory.{MemoryState, most_rom};
 
@@ -43,7 +45,8 @@ impl Model for Memory {
 
     ghost view = { λ memory. record { ram = memory.ram; rom = memory.rom.items } };
 
-    ghost invariant = { λ memory. Agrees memory.walker memory.ram × (length memory.rom.items ≤ most_rom) };
+    ghost invariant = { λ memory. Agrees memory.walker memory.ram × (length memory.rom.items ≤ most_rom)
+        × (memory.eights ≡ length memory.ram - 7) };
 }
 
 impl Memory {
@@ -54,7 +57,13 @@ impl Memory {
         ensures ram { result.ram ≡ ram }
         ensures rom { result.rom ≡ rom.items }
     {
-        Memory { ram, rom, walker }
+        let eights = ram.len().saturating_sub(7);
+        Memory {
+            ram,
+            eights,
+            rom,
+            walker,
+        }
     }
 
     /// The RAM.
@@ -148,8 +157,8 @@ impl Memory {
         self.physical(hart, hart.data_mode(), kind, va)
     }
 
-    /// Whether a data access of `size` bytes at `va` is aligned, needs no translation and lies in RAM, as
-    /// nearly all do in machine mode.
+    /// Whether a data access of `size` bytes at `va` is aligned, needs no translation and lies in RAM, and not
+    /// at its end, as nearly all do in machine mode.
     #[inline(always)]
     #[tactic(auto, unfolding(sv39_walk::specs::Plain::translated))]
     pub(crate) fn is_direct(&self, hart: &Hart, size: u8, va: u64) -> bool
@@ -160,7 +169,7 @@ impl Memory {
         ensures inside { IsTrue result → IsTrue (has_part self.now.ram va size) }
     {
         let in_machine_mode = hart.mode == Mode::M && !has_any(mstatus(&hart.csrs), MSTATUS_MPRV);
-        is_aligned(va, size) && in_machine_mode && self.holds(va, size)
+        is_aligned(va, size) && in_machine_mode && self.has_eight(va, size)
     }
 
     /// The physical address of the page of `va`, where the walker remembers it for the accesses of this kind
@@ -175,7 +184,7 @@ impl Memory {
     }
 
     /// Where a data access of `size` bytes at `va` goes that is aligned and made in the hart's own mode, where
-    /// the walker remembers the page and RAM holds the bytes.
+    /// the walker remembers the page and RAM holds eight bytes there.
     #[inline(always)]
     pub(crate) fn near(&self, hart: &Hart, kind: Kind, size: u8, va: u64) -> Option<u64>
         requires { IsSize size }
@@ -194,11 +203,15 @@ impl Memory {
         }
         let base = self.page_base(hart, kind, va)?;
         let at = base + va % 4096;
-        if self.holds(at, size) { Some(at) } else { None }
+        if self.has_eight(at, size) {
+            Some(at)
+        } else {
+            None
+        }
     }
 
     /// Where the two parcels at the hart's pc stand, where one page has both, the walker remembers it and RAM
-    /// holds them.
+    /// holds eight bytes there.
     #[inline(always)]
     pub(crate) fn pc_place(&self, hart: &Hart) -> Option<u64>
         ensures first { IfSome result (λ at. physical (acting_mode hart.now) Fetch hart.now self.now.ram hart.now.pc ≡ Ok at) }
@@ -214,7 +227,11 @@ impl Memory {
         }
         let base = self.page_base(hart, Kind::Fetch, hart.pc)?;
         let at = base + hart.pc % 4096;
-        if self.holds(at, 4) { Some(at) } else { None }
+        if self.has_eight(at, 4) {
+            Some(at)
+        } else {
+            None
+        }
     }
 
     /// The physical address of an access of `size` bytes that RAM alone answers.
@@ -244,6 +261,18 @@ impl Memory {
         ensures { result ≡ has_part self.now.ram at size }
     {
         self.ram.has(at, u64::from(size))
+    }
+
+    /// Whether eight bytes from `at` lie in RAM, of which the first `size` are wanted. That is one comparison;
+    /// at the end of RAM it says no where `holds` may say yes.
+    #[inline(always)]
+    pub(crate) fn has_eight(&self, at: u64, size: u8) -> bool
+        requires { size ≤ 8 }
+        ensures { IsTrue result → IsTrue (has_part self.now.ram at size) }
+    {
+        // nothing is made of them: no RAM reaches the end of 64 bits
+        let (_wanted, _bounded) = (size, self.ram.len());
+        at.wrapping_sub(BASE) < self.eights
     }
 
     /// The number in the `size` bytes from `at` in RAM.

@@ -11,12 +11,13 @@ ghost use Rattle.hart_step.specs.Step.{StepLeaves, carried_out, enters, first_of
 
 use crate::access::Site;
 use crate::answers::Answers;
-use crate::event::{Event, Priv, Put};
+use crate::event::{Priv, Put};
 use crate::exception::Exception;
 use crate::execute::execute;
 use crate::fetch::{Decoded, decode_parcels, fetch};
 use crate::hart::Hart;
 use crate::memory::Memory;
+use crate::shows::Shows;
 use trap_rules::{Cause, enter};
 
 /// Enters a trap, which the step is counted as.
@@ -38,32 +39,26 @@ fn enter_trap(hart: &mut Hart, cause: Cause, tval: u64)
 /// Takes an exception of the instruction at `pc`, which was begun with the privilege `mode`: enters its
 /// trap, but in debug mode nothing changes.
 #[inline(always)]
-fn take_exception(
+fn take_exception<S: Shows>(
     h: u8,
     hart: &mut Hart,
     mode: Priv,
     pc: u64,
     exception: &Exception,
-    event: &mut Event,
+    place: &mut S,
 )
     requires number { h < 8 }
     requires fit { IsFitHart hart.old }
     ensures hart { hart.new ≡ traps exception.now hart.old }
-    ensures event { event.new ≡ EventOf.Exception h mode pc exception.now.cause exception.now.tval }
-    ensures formed { IsEvent event.new }
+    ensures shown { S.shows place.new (EventOf.Exception h mode pc exception.now.cause exception.now.tval) }
+    ensures formed { IsEvent (EventOf.Exception h mode pc exception.now.cause exception.now.tval) }
     ensures fit { StaysFit hart.old hart.new }
 {
     let (cause, tval) = exception.parts();
     if !hart.is_in_debug() {
         enter_trap(hart, Cause::Exception(cause), tval);
     }
-    *event = Event::Exception {
-        hart: h,
-        mode,
-        pc,
-        cause,
-        tval,
-    };
+    place.exception(h, mode, pc, cause, tval);
 }
 
 /// Counts an instruction that was carried out, where its step began out of debug mode.
@@ -82,24 +77,23 @@ fn retire(hart: &mut Hart, was_in_debug: bool, wrote: Option<u16>)
 
 /// Carries out the instruction that two fetched parcels begin with, and answers what it stored.
 #[inline(always)]
-fn carry_out<A: Answers>(
+fn carry_out<A: Answers, S: Shows>(
     h: u8,
     harts: u8,
     parcels: u32,
     hart: &mut Hart,
     memory: &mut Memory,
     answers: &mut A,
-    event: &mut Event,
+    place: &mut S,
 ) -> Option<Put>
     requires ready { A.ready answers.old h }
     requires number { h < 8 }
     requires harts { harts ≤ 8 }
     requires fit { IsFitHart hart.old }
-    ensures leaves { StepLeaves A.after answers.old answers.new h hart.new memory.new event.new result
+    ensures leaves { StepLeaves A.after answers.old answers.new h hart.new memory.new (S.shows place.new) result
         (or_raises h hart.old memory.old (carried_out
         (given_by (A.says answers.old h) hart.old)
         harts h hart.old memory.old (first_of parcels))) }
-    ensures formed { IsEvent event.new }
     ensures keeps { Keeps hart.old hart.new memory.old memory.new }
 {
     let pc = hart.pc;
@@ -108,7 +102,7 @@ fn carry_out<A: Answers>(
     let Decoded { word, len, insn } = decode_parcels(parcels);
     let Some(insn) = insn else {
         let exception = Exception::illegal(word);
-        take_exception(h, hart, mode, pc, &exception, event);
+        take_exception(h, hart, mode, pc, &exception, place);
         return None;
     };
     let site = Site {
@@ -117,14 +111,14 @@ fn carry_out<A: Answers>(
         word,
         len,
     };
-    match execute(site, insn, hart, memory, answers) {
+    match execute::<A, S>(site, insn, hart, memory, answers) {
         Ok(done) => {
-            let (wrote, stored) = done.show(event, h, mode, pc, word);
+            let (wrote, stored) = done.show(place, h, mode, pc, word);
             retire(hart, was_in_debug, wrote);
             stored
         }
         Err(exception) => {
-            take_exception(h, hart, mode, pc, &exception, event);
+            take_exception(h, hart, mode, pc, &exception, place);
             None
         }
     }
@@ -133,30 +127,29 @@ fn carry_out<A: Answers>(
 /// Fetches one instruction of hart number `h`, on a board of `harts` harts, carries it out, and answers what
 /// it stored.
 #[inline(always)]
-fn run_instruction<A: Answers>(
+fn run_instruction<A: Answers, S: Shows>(
     h: u8,
     harts: u8,
     hart: &mut Hart,
     memory: &mut Memory,
     answers: &mut A,
-    event: &mut Event,
+    place: &mut S,
 ) -> Option<Put>
     requires ready { A.ready answers.old h }
     requires number { h < 8 }
     requires harts { harts ≤ 8 }
     requires fit { IsFitHart hart.old }
-    ensures leaves { StepLeaves A.after answers.old answers.new h hart.new memory.new event.new result
+    ensures leaves { StepLeaves A.after answers.old answers.new h hart.new memory.new (S.shows place.new) result
         (instruction_step (given_by (A.says answers.old h) hart.old)
         harts h hart.old memory.old) }
-    ensures formed { IsEvent event.new }
     ensures keeps { Keeps hart.old hart.new memory.old memory.new }
 {
     match fetch(hart, memory) {
-        Ok(parcels) => carry_out(h, harts, parcels, hart, memory, answers, event),
+        Ok(parcels) => carry_out(h, harts, parcels, hart, memory, answers, place),
         Err(exception) => {
             let pc = hart.pc;
             let mode = hart.privilege();
-            take_exception(h, hart, mode, pc, &exception, event);
+            take_exception(h, hart, mode, pc, &exception, place);
             None
         }
     }
@@ -166,30 +159,29 @@ fn run_instruction<A: Answers>(
 /// one instruction. Answers what was stored.
 #[tactic(auto, using(crate::proofs::Causes::taken_small, crate::proofs::Outside::taken_outside), unfolding(crate::specs::Step::hart_step))]
 #[inline(always)]
-pub(crate) fn step_hart<A: Answers>(
+pub(crate) fn step_hart<A: Answers, S: Shows>(
     h: u8,
     harts: u8,
     hart: &mut Hart,
     memory: &mut Memory,
     answers: &mut A,
-    event: &mut Event,
+    place: &mut S,
 ) -> Option<Put>
     requires ready { A.ready answers.old h }
     requires number { h < 8 }
     requires harts { harts ≤ 8 }
     requires fit { IsFitHart hart.old }
-    ensures leaves { StepLeaves A.after answers.old answers.new h hart.new memory.new event.new result
+    ensures leaves { StepLeaves A.after answers.old answers.new h hart.new memory.new (S.shows place.new) result
         (hart_step (given_by (A.says answers.old h) hart.old)
         harts h hart.old memory.old) }
-    ensures formed { IsEvent event.new }
     ensures keeps { Keeps hart.old hart.new memory.old memory.new }
 {
     match answers.interrupt(h, &hart.csrs, hart.mode) {
         Some(cause) => {
             enter_trap(hart, Cause::Interrupt(cause), 0);
-            *event = Event::Interrupt { hart: h, cause };
+            place.interrupt(h, cause);
             None
         }
-        None => run_instruction(h, harts, hart, memory, answers, event),
+        None => run_instruction(h, harts, hart, memory, answers, place),
     }
 }
