@@ -1,5 +1,5 @@
 -- One step of the machine, by what the step of its core says.
-use Rattle.std.proofs.Common.{◌≡◌, ℕ, ◌+◌, ◌≤◌, List, [], ◌∷◌, ◌++◌, length, refl, ap, sym, ◌∙◌, subst, arith}
+use Rattle.std.proofs.Common.{◌≡◌, ℕ, ◌+◌, ◌≤◌, Bool, true, false, List, [], ◌∷◌, ◌++◌, length, refl, ap, sym, ◌∙◌, subst, arith}
 use Rattle.std.proofs.lemmas.List.{append-nil, length-append}
 use Rattle.board_bus.specs.Board.{hart_count}
 use Rattle.board_bus.specs.Laws.{LoadKeepsHarts, SendsAtMost, StoreKeepsHarts}
@@ -10,6 +10,7 @@ use Rattle.hart_step.specs.Step.{Answer}
 use Rattle.hart_turns.specs.declared.outside.Outside.{Outside}
 use Rattle.hart_turns.specs.declared.running.Running.{Running}
 use Rattle.hart_turns.specs.Gives.{board_after, board_says, sent_by}
+use Rattle.hart_turns.specs.Events.{with_event}
 use Rattle.hart_turns.specs.Kept.{AfterSteps, outside_after, progress_of}
 use Rattle.hart_turns.specs.Turn.{after_answer, one_step}
 
@@ -32,17 +33,41 @@ accessed loads stores sends o h ram (Stores at size value) = record {
   short = let most = sends ram o.board at size value in let sum = length-append o.output.bytes (sent_by ram o.board (Stores at size value)) in omega arith;
 }
 
-made : (before after : Running) (event : Event) (a : Answer) → Accessed before.outside after.outside after.core.ram a.access → event ≡ a.event → after.core ≡ a.core → length after.core.harts ≡ length before.core.harts → length after.core.ram ≡ length before.core.ram → after.events.items ≡ before.events.items ++ event ∷ [] → after.events.room ≡ before.events.room → AfterSteps before after (after_answer (progress_of before) a) 1
-made before after event a access event_is core_is harts ram items places = record {
-  progress_is = rw (access.board, access.bytes, items, event_is, core_is) refl;
-  form = record { harts = harts; devices = access.harts; ram = ram; room = access.room; places = places };
-  console = let short = access.short in omega arith;
-  events = ap length items ∙ length-append before.events.items (event ∷ []);
+-- what a step of hart h does to a machine within a turn, but for its events
+record Steps (before after : Running) (a : Answer) : Type 0 where
+  access : Accessed before.outside after.outside after.core.ram a.access
+  core : after.core ≡ a.core
+  harts : length after.core.harts ≡ length before.core.harts
+  ram : length after.core.ram ≡ length before.core.ram
+  places : after.events.room ≡ before.events.room
+
+made : (keeps : Bool) (before after : Running) (a : Answer) → Steps before after a → after.events.items ≡ with_event keeps before.events.items a.event → AfterSteps keeps before after (after_answer (progress_of before) a) 1
+made true before after a s items = record {
+  progress_is = let access = s.access in rw (access.board, access.bytes, items, s.core) refl;
+  form = record { harts = s.harts; devices = s.access.harts; ram = s.ram; room = s.access.room; places = s.places };
+  console = let short = s.access.short in omega arith;
+  events = let long = ap length items ∙ length-append before.events.items (a.event ∷ []) in omega arith;
+}
+made false before after a s items = record {
+  progress_is = let access = s.access in rw (access.board, access.bytes, items, s.core) refl;
+  form = record { harts = s.harts; devices = s.access.harts; ram = s.ram; room = s.access.room; places = s.places };
+  console = let short = s.access.short in omega arith;
+  events = let long = ap length items in omega arith;
 }
 
-pub step_made : LoadKeepsHarts → StoreKeepsHarts → SendsAtMost → (before after : Running) (h : ℕ) (event : Event) → CoreLeaves (λ s h. outside_after s) before.outside after.outside h before.core after.core event (step_by (board_says before.outside.board h) before.core h) → after.events.items ≡ before.events.items ++ event ∷ [] → after.events.room ≡ before.events.room → AfterSteps before after (one_step h (progress_of before)) 1
-unfolding one_step
-step_made loads stores sends before after h event s items places =
+stepped : LoadKeepsHarts → StoreKeepsHarts → SendsAtMost → (before after : Running) (h : ℕ) (event : Event) → CoreLeaves (λ s h. outside_after s) before.outside after.outside h before.core after.core event (step_by (board_says before.outside.board h) before.core h) → after.events.room ≡ before.events.room → Steps before after (step_by (board_says before.outside.board h) before.core h)
+stepped loads stores sends before after h event s places =
     let a : Answer = step_by (board_says before.outside.board h) before.core h in
-    let access : Accessed before.outside after.outside after.core.ram a.access = subst (λ (o : Outside). Accessed before.outside o after.core.ram a.access) (sym s.outside) (accessed loads stores sends before.outside h after.core.ram a.access) in
-    made before after event a access s.event_is s.core_is s.harts s.ram items places
+    record {
+      access = subst (λ (o : Outside). Accessed before.outside o after.core.ram a.access) (sym s.outside) (accessed loads stores sends before.outside h after.core.ram a.access);
+      core = s.core_is;
+      harts = s.harts;
+      ram = s.ram;
+      places = places;
+    }
+
+-- a step of hart h, whose event is kept or not
+pub step_made : (keeps : Bool) → LoadKeepsHarts → StoreKeepsHarts → SendsAtMost → (before after : Running) (h : ℕ) (event : Event) → CoreLeaves (λ s h. outside_after s) before.outside after.outside h before.core after.core event (step_by (board_says before.outside.board h) before.core h) → after.events.items ≡ with_event keeps before.events.items (step_by (board_says before.outside.board h) before.core h).event → after.events.room ≡ before.events.room → AfterSteps keeps before after (one_step h (progress_of before)) 1
+unfolding one_step
+step_made keeps loads stores sends before after h event s items places =
+    made keeps before after _ (stepped loads stores sends before after h event s places) items

@@ -25,8 +25,9 @@ use Rattle.hart_turns.specs.Fit.{IsFit}
 use Rattle.hart_turns.specs.FitLaws.{AreFit, BoardStepsStayFit, ClearingStaysFit, DebugResetIsFit, ResetIsFit, TurnsStayFit, TurnsStayRunning}
 use Rattle.hart_turns.specs.Gives.{board_after, board_gives, board_step}
 use Rattle.hart_turns.specs.Machine.{MachineState, is_running}
-use Rattle.hart_turns.specs.Turn.{Progress, after_window, all_steps, begins, closed, end_of, hart_steps, looked_after, one_step, takes, turned, window_after}
+use Rattle.hart_turns.specs.Turn.{Progress, after_window, all_steps, begins, closed, end_of, hart_steps, one_step, takes, turned, window_after}
 use Rattle.hart_turns.proofs.Allowed.{board_is_allowed_lem}
+use Rattle.hart_turns.proofs.Turns.{looked}
 
 -- ---- one step
 
@@ -114,10 +115,6 @@ closed_fits m offered p Goes fit offers are =
     }
 closed_fits m offered p (Ended code) fit offers are = whole m p.core p.board m.taken are
 closed_fits m offered p (BadHost word) fit offers are = whole m p.core p.board m.taken are
-
--- the progress of a machine's turn after its steps and the look at the window
-abbrev looked : MachineState → Progress
-looked m = looked_after m.shape.harts m.shape.slice m.shape.tohost (begins m)
 
 looked_fits : (m : MachineState) → IsFit m → ProgressFits m.shape m.core (looked m)
 looked_fits m fit =

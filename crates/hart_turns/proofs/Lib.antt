@@ -1,3 +1,4 @@
+pub mod Blind
 pub mod Steps
 pub mod Accesses
 pub mod Turns

@@ -1,6 +1,7 @@
 -- What the code keeps of a turn.
-use Rattle.std.specs.Prelude.{◌≡◌, ℕ, ◌+◌, ◌*◌, ◌≤◌, List, ◌++◌, All, length}
+use Rattle.std.specs.Prelude.{◌≡◌, ℕ, ◌+◌, ◌*◌, ◌≤◌, Bool, true, false, List, ◌++◌, All, length}
 use Rattle.board_bus.specs.Board.{hart_count}
+use Rattle.hart_step.specs.declared.event.Event.{Event}
 use Rattle.hart_step.specs.Answers.{Access}
 use Rattle.hart_step.specs.Events.{IsEvent}
 use Rattle.hart_turns.specs.declared.outside.Outside.{Outside}
@@ -23,6 +24,11 @@ outside_after s ram access = record {
 abbrev pub progress_of : Running → Progress
 progress_of r = record { core = r.core; board = r.outside.board; console = r.outside.output.bytes; events = r.events.items }
 
+-- what is kept of a progress: all, or all but its events, in whose place are those of before
+abbrev pub kept : Bool → List Event → Progress → Progress
+kept true events p = p
+kept false events p = record p { events = events }
+
 -- what no step changes: how many harts there are, how long memory is, and the room of the buffers
 pub record KeepsForm (before after : Running) : Type 0 where
   pub harts : length after.core.harts ≡ length before.core.harts
@@ -40,12 +46,12 @@ pub record HasRoom (r : Running) (steps : ℕ) : Type 0 where
 abbrev pub StaysFormed : Running → Running → Type 0
 StaysFormed before after = All IsEvent before.events.items → All IsEvent after.events.items
 
--- the machine has gone on to this progress in n steps
-pub record AfterSteps (before after : Running) (p : Progress) (n : ℕ) : Type 0 where
-  pub progress_is : progress_of after ≡ p
+-- the machine has gone on to this progress in n steps, whose events were kept or not
+pub record AfterSteps (keeps : Bool) (before after : Running) (p : Progress) (n : ℕ) : Type 0 where
+  pub progress_is : progress_of after ≡ kept keeps before.events.items p
   pub form : KeepsForm before after
   pub console : length after.outside.output.bytes ≤ length before.outside.output.bytes + 256 * n
-  pub events : length after.events.items ≡ length before.events.items + n
+  pub events : length after.events.items ≤ length before.events.items + n
 
 -- what is kept of a boot after so many steps, as the definitions see it
 abbrev pub booting_of : Running → ℕ → Booting

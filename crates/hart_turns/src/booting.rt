@@ -7,6 +7,7 @@ ghost use Rattle.hart_step.specs.Events.{exception_of};
 ghost use Rattle.hart_turns.specs.Boot.{boot_hart, boot_harts, boot_step, most_steps, step_exception};
 ghost use Rattle.hart_turns.specs.Kept.{HasBootRoom, KeepsForm, booting_of};
 
+use crate::events::Kept;
 use crate::running::Running;
 use hart_step::{Core, Event};
 
@@ -48,7 +49,7 @@ impl Running {
         ensures sent { length self.new.outside.output.bytes ≤ length self.old.outside.output.bytes + 256 }
     {
         self.events.clear();
-        self.hart_steps(h, 1);
+        self.hart_steps::<Kept>(h, 1);
         exception(&self.events.as_slice()[0])
     }
 

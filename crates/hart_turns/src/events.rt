@@ -1,9 +1,9 @@
 //! The events of a turn, each written where it is kept.
 
-ghost use Rattle.std.specs.Prelude.{◌≡◌, ◌<◌, ◌∷◌, ◌++◌, [], IfOk, length};
-ghost use Rattle.std.specs.Prelude.{All};
+ghost use Rattle.std.specs.Prelude.{◌≡◌, ◌<◌, ◌∷◌, ◌++◌, [], All, Bool, true, false, IfOk, length};
 ghost use Rattle.hart_step.specs.Clauses.{CoreLeaves, step_by};
 ghost use Rattle.hart_step.specs.Events.{IsEvent};
+ghost use Rattle.hart_turns.specs.Events.{with_event};
 
 use crate::machine::NoMemory;
 use hart_step::{Answers, Core, Event};
@@ -82,4 +82,60 @@ impl EventList {
         core.step_into(h, answers, &mut self.places[self.count]);
         self.count += 1;
     }
+}
+
+/// Whether the events of a turn are kept.
+pub(crate) trait Keeps {
+    /// They are.
+    ghost keeps: { Bool };
+
+    /// Takes one step of hart `h` of a core, and keeps its event or not.
+    fn step<A: Answers>(events: &mut EventList, core: &mut Core, h: u8, answers: &mut A)
+        requires room { length events.old.items < events.old.room }
+        requires hart { h < length core.old.harts }
+        requires ready { A.ready answers.old h }
+        ensures items { events.new.items
+            ≡ with_event keeps events.old.items (step_by (A.says answers.old h) core.old h).event }
+        ensures room { events.new.room ≡ events.old.room }
+        ensures formed { All IsEvent events.old.items → All IsEvent events.new.items }
+        ensures leaves { CoreLeaves A.after answers.old answers.new h core.old core.new
+            (step_by (A.says answers.old h) core.old h).event
+            (step_by (A.says answers.old h) core.old h) };
+
+    /// Keeps an event or not.
+    fn push(events: &mut EventList, event: Event)
+        requires room { length events.old.items < events.old.room }
+        ensures items { events.new.items ≡ with_event keeps events.old.items event }
+        ensures room { events.new.room ≡ events.old.room }
+        ensures formed { All IsEvent events.old.items → IsEvent event → All IsEvent events.new.items };
+}
+
+/// Each event is kept.
+pub(crate) struct Kept;
+
+impl Keeps for Kept {
+    ghost keeps = { true };
+
+    #[inline(always)]
+    fn step<A: Answers>(events: &mut EventList, core: &mut Core, h: u8, answers: &mut A) {
+        events.push_step(core, h, answers);
+    }
+
+    fn push(events: &mut EventList, event: Event) {
+        events.push(event);
+    }
+}
+
+/// No event is kept.
+pub(crate) struct Unseen;
+
+impl Keeps for Unseen {
+    ghost keeps = { false };
+
+    #[inline(always)]
+    fn step<A: Answers>(_events: &mut EventList, core: &mut Core, h: u8, answers: &mut A) {
+        core.step_unseen(h, answers);
+    }
+
+    fn push(_events: &mut EventList, _event: Event) {}
 }

@@ -1,6 +1,6 @@
 //! The whole machine, turn by turn: the harts, their memory and their devices. `specs/Turn.antt` defines
-//! a turn, and [`Machine::turn`] is that turn; `specs/Boot.antt` defines how a machine executes a boot ROM,
-//! and [`Machine::boot`] is that boot.
+//! a turn, and [`Machine::turn`] is that turn, [`Machine::turn_unseen`] the same without its events;
+//! `specs/Boot.antt` defines how a machine executes a boot ROM, and [`Machine::boot`] is that boot.
 #![tactic(auto)]
 
 mod booting;

@@ -1,6 +1,6 @@
 //! The machine and its turns.
 
-ghost use Rattle.std.specs.Prelude.{◌≡◌, ◌%◌, ◌<◌, ◌≤◌, ◌+◌, [], All, IfErr, IfOk, IsFalse, IsTrue, length};
+ghost use Rattle.std.specs.Prelude.{◌≡◌, ◌%◌, ◌<◌, ◌≤◌, ◌+◌, if◌then◌else◌, [], All, IfErr, IfOk, IsFalse, IsTrue, length};
 ghost use Rattle.board_bus.specs.Board.{reset_board, ticked};
 ghost use Rattle.sim_config.specs.Ranges.{IsShape};
 ghost use Rattle.hart_step.specs.Events.{IsEvent};
@@ -11,7 +11,7 @@ ghost use Rattle.hart_turns.specs.Machine.{cleared, debug_machine, is_running, r
 ghost use Rattle.hart_turns.specs.Turn.{taken_after, takes, turned};
 
 use crate::booting::{BootFault, MOST_STEPS};
-use crate::events::EventList;
+use crate::events::{EventList, Keeps, Kept, Unseen};
 use crate::outside::Outside;
 use crate::running::Running;
 use board_bus::Board;
@@ -164,8 +164,36 @@ impl Machine {
         ensures grows { self.old.machine.taken ≤ self.new.machine.taken }
         ensures at_most_one { self.new.machine.taken ≤ self.old.machine.taken + 1 }
     {
+        self.turn_of::<Kept>(input)
+    }
+
+    /// The same turn, of which no events are kept: a turn that nobody looks at is faster so.
+    pub fn turn_unseen(&mut self, input: Option<u8>) -> TurnEnd
+        requires { self.old.machine.taken < 2_000_000_000_000 }
+        ensures end { result ≡ (turned self.old.machine input).end }
+        ensures machine { self.new.machine ≡ (turned self.old.machine input).machine }
+        ensures console { self.new.console ≡ (turned self.old.machine input).console }
+        ensures events { self.new.events ≡ [] }
+        ensures grows { self.old.machine.taken ≤ self.new.machine.taken }
+        ensures at_most_one { self.new.machine.taken ≤ self.old.machine.taken + 1 }
+    {
+        self.turn_of::<Unseen>(input)
+    }
+
+    /// One turn, whose events are kept or not.
+    fn turn_of<K: Keeps>(&mut self, input: Option<u8>) -> TurnEnd
+        requires { self.old.machine.taken < 2_000_000_000_000 }
+        ensures end { result ≡ (turned self.old.machine input).end }
+        ensures machine { self.new.machine ≡ (turned self.old.machine input).machine }
+        ensures console { self.new.console ≡ (turned self.old.machine input).console }
+        ensures events { self.new.events ≡ (if K.keeps then (turned self.old.machine input).events else []) }
+        ensures grows { self.old.machine.taken ≤ self.new.machine.taken }
+        ensures at_most_one { self.new.machine.taken ≤ self.old.machine.taken + 1 }
+    {
         let shape = self.shape;
-        let end = self.running.turn(shape.harts, shape.slice, shape.tohost);
+        let end = self
+            .running
+            .turn::<K>(shape.harts, shape.slice, shape.tohost);
         match end {
             TurnEnd::Goes => self.close(input),
             TurnEnd::Ended(_) => {}

@@ -9,6 +9,7 @@ mod host_window;
 mod reset;
 mod steps;
 mod timer;
+mod unseen;
 
 use crate::tests::steps::same;
 use crate::{Machine, NoMemory, TurnEnd};
