@@ -10,10 +10,12 @@ ghost use Rattle.commit_log.specs.Spelling.{IsSpellable, line};
 
 mod commit;
 mod line_buf;
+mod pairs;
 mod parts;
 mod reader;
 #[cfg(test)]
 mod tests;
+mod values;
 mod writer;
 
 pub use line_buf::{LineBuf, hex_digit};

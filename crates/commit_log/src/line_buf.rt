@@ -1,8 +1,9 @@
 // The buffer of one line, and the parts of lines that are written into it.
 
-ghost use Rattle.std.specs.Prelude.{◌≡◌, ◌+◌, ◌<◌, ◌≤◌, ◌∷◌, ◌++◌, [], length, nat_lt, if◌then◌else◌};
-ghost use Rattle.commit_log.specs.Spelling.{hex, hex_digit, number, word};
+ghost use Rattle.std.specs.Prelude.{◌≡◌, ◌+◌, ◌*◌, ◌<◌, ◌≤◌, ◌∷◌, ◌++◌, [], length, nat_lt, if◌then◌else◌};
+ghost use Rattle.commit_log.specs.Spelling.{hex_digit, number, word};
 
+use crate::pairs::write_pairs;
 use std::marker::Model;
 
 /// A line without its newline, of at most 255 bytes.
@@ -64,6 +65,7 @@ impl LineBuf {
     }
 
     /// Appends a character.
+    #[inline(always)]
     pub(crate) fn put(&mut self, c: u8)
         requires { length self.old + 1 ≤ 255 }
         ensures value { self.new ≡ self.old ++ c ∷ [] }
@@ -73,28 +75,31 @@ impl LineBuf {
         self.len += 1;
     }
 
-    /// Appends the `count` lowest hexadecimal digits of a number, the highest of them first.
-    fn put_hex(&mut self, count: u8, value: u64)
-        requires digits { count ≤ 16 }
-        requires room { length self.old + count ≤ 255 }
-        ensures value { self.new ≡ self.old ++ hex count value }
-        ensures length { length self.new ≡ length self.old + count }
+    /// Appends characters.
+    #[inline(always)]
+    pub(crate) fn put_all(&mut self, chars: &[u8])
+        requires { length self.old + length chars.now ≤ 255 }
+        ensures value { self.new ≡ self.old ++ chars.now }
+        ensures length { length self.new ≡ length self.old + length chars.now }
     {
-        for place in (0..count).rev() {
-            self.put(hex_digit((value >> (4 * place)) % 16));
-        }
+        let end = self.len + chars.len();
+        self.bytes[self.len..end].copy_from_slice(chars);
+        self.len = end;
     }
 
-    /// Appends a space and `count` hexadecimal digits.
+    /// Appends a space and the hexadecimal digits of the `count` lowest bytes of a number.
     #[tactic(auto, unfolding(crate::specs::Spelling::word))]
+    #[inline(always)]
     pub(crate) fn put_word(&mut self, count: u8, value: u64)
-        requires digits { count ≤ 16 }
-        requires room { length self.old + (count + 1) ≤ 255 }
-        ensures value { self.new ≡ self.old ++ word count value }
-        ensures length { length self.new ≡ length self.old + (count + 1) }
+        requires bytes { count ≤ 8 }
+        requires room { length self.old + (2 * count + 1) ≤ 255 }
+        ensures value { self.new ≡ self.old ++ word (2 * count) value }
+        ensures length { length self.new ≡ length self.old + (2 * count + 1) }
     {
-        self.put(b' ');
-        self.put_hex(count, value);
+        let start = self.len;
+        self.bytes[start] = b' ';
+        write_pairs(&mut self.bytes, start + 1, count, value);
+        self.len = start + 1 + 2 * usize::from(count);
     }
 
     /// Appends a decimal number below 100.

@@ -4,6 +4,7 @@
 ghost use Rattle.std.specs.Prelude.{◌≡◌, ◌*◌, ◌^◌, ◌<◌, ◌≤◌, IfOk};
 ghost use Rattle.commit_log.specs.Reading.{at_end, digits_of, first_value, Gives, hart_value, hex_value, mode_value, number_of, one, past, place_of, size_value, with_second, word_of};
 
+use crate::values::number_in_front;
 use hart_step::Priv;
 
 /// The hart, the mode and the pc of a record.
@@ -87,7 +88,9 @@ fn read_hex_digit(line: &[u8]) -> Result<(u8, &[u8]), usize>
     }
 }
 
-/// Reads a number of `count` hexadecimal digits.
+/// Reads a number of `count` hexadecimal digits, and finds where it ends too soon.
+#[cold]
+#[inline(never)]
 fn read_digits(line: &[u8], count: u8) -> Result<(u64, &[u8]), usize>
     requires { count ≤ 16 }
     ensures value { Gives (λ x. (x.0, x.1.now)) result (digits_of count 0 line.now) }
@@ -108,12 +111,18 @@ fn read_digits(line: &[u8], count: u8) -> Result<(u64, &[u8]), usize>
 
 /// Reads a space and a number of `count` hexadecimal digits.
 #[tactic(auto, unfolding(crate::specs::Reading::word_of))]
+#[inline(always)]
 pub(crate) fn read_word(line: &[u8], count: u8) -> Result<(u64, &[u8]), usize>
     requires { count ≤ 16 }
     ensures value { Gives (λ x. (x.0, x.1.now)) result (word_of count line.now) }
     ensures below { IfOk result (λ x. x.0 < 2 ^ (4 * count)) }
 {
     let rest = past(line, b' ')?;
+    if rest.len() >= usize::from(count) {
+        if let Some(value) = number_in_front(rest, count) {
+            return Ok((value, &rest[usize::from(count)..]));
+        }
+    }
     read_digits(rest, count)
 }
 
@@ -156,6 +165,7 @@ pub(crate) fn read_number(line: &[u8], low: u8, high: u8) -> Result<(u8, &[u8]),
 
 /// Reads the hart, the mode and the pc, each after a space.
 #[tactic(auto, unfolding(crate::specs::Reading::place_of))]
+#[inline(always)]
 pub(crate) fn read_place(line: &[u8]) -> Result<(Place, &[u8]), usize>
     ensures { Gives (λ x. (x.0, x.1.now)) result (place_of line.now) }
 {

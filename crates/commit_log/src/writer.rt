@@ -20,18 +20,15 @@ fn mode_letter(mode: Priv) -> u8
 
 /// Appends the letter of a record, and where its step stood.
 #[tactic(auto, unfolding(crate::specs::Spelling::place))]
+#[inline(always)]
 fn put_place(buf: &mut LineBuf, letter: u8, hart: u8, mode: Priv, pc: u64)
     requires hart { hart < 8 }
     requires room { length buf.old + 22 ≤ 255 }
     ensures value { buf.new ≡ buf.old ++ letter ∷ place hart mode pc }
     ensures length { length buf.new ≡ length buf.old + 22 }
 {
-    buf.put(letter);
-    buf.put(b' ');
-    buf.put(b'0' + hart);
-    buf.put(b' ');
-    buf.put(mode_letter(mode));
-    buf.put_word(16, pc);
+    buf.put_all(&[letter, b' ', b'0' + hart, b' ', mode_letter(mode)]);
+    buf.put_word(8, pc);
 }
 
 fn put_register(buf: &mut LineBuf, rd: Option<(u8, u64)>)
@@ -41,10 +38,9 @@ fn put_register(buf: &mut LineBuf, rd: Option<(u8, u64)>)
     ensures length { length buf.new ≤ length buf.old + 21 }
 {
     let Some((number, value)) = rd else { return };
-    buf.put(b' ');
-    buf.put(b'x');
+    buf.put_all(b" x");
     buf.put_number(number);
-    buf.put_word(16, value);
+    buf.put_word(8, value);
 }
 
 fn put_store(buf: &mut LineBuf, st: Option<Put>)
@@ -54,13 +50,10 @@ fn put_store(buf: &mut LineBuf, st: Option<Put>)
     ensures length { length buf.new ≤ length buf.old + 39 }
 {
     let Some(st) = st else { return };
-    buf.put(b' ');
-    buf.put(b's');
-    buf.put(b't');
-    buf.put_word(16, st.at);
-    buf.put(b' ');
-    buf.put(b'0' + st.size);
-    buf.put_word(2 * st.size, st.value);
+    buf.put_all(b" st");
+    buf.put_word(8, st.at);
+    buf.put_all(&[b' ', b'0' + st.size]);
+    buf.put_word(st.size, st.value);
 }
 
 fn put_answer(buf: &mut LineBuf, dv: Option<u64>)
@@ -69,10 +62,8 @@ fn put_answer(buf: &mut LineBuf, dv: Option<u64>)
     ensures length { length buf.new ≤ length buf.old + 20 }
 {
     let Some(value) = dv else { return };
-    buf.put(b' ');
-    buf.put(b'd');
-    buf.put(b'v');
-    buf.put_word(16, value);
+    buf.put_all(b" dv");
+    buf.put_word(8, value);
 }
 
 fn put_volatile(buf: &mut LineBuf, vl: Option<u64>)
@@ -81,10 +72,8 @@ fn put_volatile(buf: &mut LineBuf, vl: Option<u64>)
     ensures length { length buf.new ≤ length buf.old + 20 }
 {
     let Some(value) = vl else { return };
-    buf.put(b' ');
-    buf.put(b'v');
-    buf.put(b'l');
-    buf.put_word(16, value);
+    buf.put_all(b" vl");
+    buf.put_word(8, value);
 }
 
 /// Replaces the contents of the buffer by the line of an event, without a newline. The event is one
@@ -109,7 +98,7 @@ pub fn write(e: &Event, buf: &mut LineBuf)
             vl,
         } => {
             put_place(buf, b'C', hart, mode, pc);
-            buf.put_word(8, u64::from(insn));
+            buf.put_word(4, u64::from(insn));
             put_register(buf, rd);
             put_store(buf, st);
             put_answer(buf, dv);
@@ -125,18 +114,15 @@ pub fn write(e: &Event, buf: &mut LineBuf)
             put_place(buf, b'X', hart, mode, pc);
             buf.put(b' ');
             buf.put_number(cause);
-            buf.put_word(16, tval);
+            buf.put_word(8, tval);
         }
         Event::Interrupt { hart, cause } => {
-            buf.put(b'I');
-            buf.put(b' ');
-            buf.put(b'0' + hart);
-            buf.put(b' ');
+            buf.put_all(&[b'I', b' ', b'0' + hart, b' ']);
             buf.put_number(cause);
         }
         Event::Host { word } => {
             buf.put(b'H');
-            buf.put_word(16, word);
+            buf.put_word(8, word);
         }
     }
 }
