@@ -7,9 +7,9 @@ use Rattle.outside_io.specs.declared.OutFault.TheVariants.{Failed, NoMemory}
 abbrev pub raised : ℕ → ℕ
 raised count = min (count + 1) (2 ^ 64 - 1)
 
--- the count rose, or stands at its last value
+-- exactly one call failed: the count is one more, or stands at its last value
 abbrev pub Rose : ℕ → ℕ → Type 0
-Rose before now = min (before + 1) (2 ^ 64 - 1) ≤ now
+Rose before now = now ≡ raised before
 
 -- a count of faults can still rise: it stands below its last value
 abbrev pub CanRise : ℕ → Type 0
@@ -24,7 +24,7 @@ pub record HasNotRisen (before now : ℕ) : Type 0 where
 pub record HasCause {T : Type 0} (before now : ℕ) (result : Result T OutFault) : Type 0 where
   -- the count never falls
   pub later : before ≤ now
-  -- `Failed` comes only where it rose, or stands at its end
+  -- `Failed` counts as one fault, whatever was tried
   pub failed : IsErrOf result Failed → Rose before now
   -- an answer leaves it
   pub kept : OnOk result (now ≡ before)

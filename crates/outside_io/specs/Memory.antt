@@ -6,13 +6,32 @@ use Rattle.outside_io.specs.Calls.{AreQuiet}
 use Rattle.outside_io.specs.Causes.{CanRise}
 use Rattle.outside_io.specs.Content.{Held}
 use Rattle.outside_io.specs.declared.calls.Calls.{Calls}
+use Rattle.outside_io.specs.declared.sure.SureSource.{SureSource}
+use Rattle.outside_io.specs.declared.sure.SureSink.{SureSink}
+use Rattle.outside_io.specs.declared.sure.SureFiles.{SureFiles}
 use Rattle.outside_io.specs.declared.memory.MemSource.{MemSource}
 use Rattle.outside_io.specs.declared.memory.MemSink.{MemSink}
 use Rattle.outside_io.specs.declared.memory.MemFiles.{MemFiles}
 
+-- ---- objects that never fail
+
+-- the bytes still to be read
+abbrev pub sure_left : SureSource → List ℕ
+sure_left source = drop source.at source.bytes.items
+
+-- the bytes written so far
+abbrev pub sure_bytes : SureSink → List ℕ
+sure_bytes sink = sink.bytes.items
+
+-- from a name's bytes to what the file of that name holds
+abbrev pub sure_held : SureFiles → Held
+sure_held files name = option_map (λ bytes. bytes.items) (get_by_text files.files name)
+
+-- ---- objects that fail at the calls that are listed
+
 -- the bytes still to be read
 abbrev pub source_left : MemSource → List ℕ
-source_left source = drop source.at source.bytes.items
+source_left source = sure_left source.source
 
 -- its calls
 abbrev pub source_calls : MemSource → Calls
@@ -24,7 +43,7 @@ source_faults source = source.faults
 
 -- the bytes written so far
 abbrev pub sink_bytes : MemSink → List ℕ
-sink_bytes sink = sink.bytes.items
+sink_bytes sink = sure_bytes sink.sink
 
 -- its calls
 abbrev pub sink_calls : MemSink → Calls
@@ -36,7 +55,7 @@ sink_faults sink = sink.faults
 
 -- from a name's bytes to what the file of that name holds
 abbrev pub files_held : MemFiles → Held
-files_held files name = option_map (λ bytes. bytes.items) (get_by_text files.files name)
+files_held files = sure_held files.files
 
 -- their calls
 abbrev pub files_calls : MemFiles → Calls

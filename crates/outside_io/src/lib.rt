@@ -1,11 +1,13 @@
 //! The outside of the program: where bytes come from, where they go, and files.
 //!
 //! Each trait has a meaning that may be told or not (the bytes that are left, the bytes written,
-//! what each file holds) and a count of faults. A call answers `Failed` only where its count rose,
-//! so code that is generic over a trait cannot make up a fault. An object may also say that it is
-//! quiet: it is known to fail at no call, and its counts stand below their last value, so that no
-//! count of a quiet object is said to have risen. The objects in memory tell all; the adapters over
-//! the standard library tell what the standard library tells of them, and are never quiet.
+//! what each file holds) and a count of faults, which is one more after each call that fails. So code
+//! that is generic over a trait cannot make up a fault, pass one over, or try a call again, without its
+//! count telling. An object may also say that it is quiet: it is known to fail at no call, and its
+//! counts stand below their last value, so that no count of a quiet object is said to have risen. The
+//! objects in memory tell all, those of the `Mem` kinds failing at the calls that are listed, and those
+//! of the `Sure` kinds at none; the adapters over the standard library tell what the standard library
+//! tells of them, and are never quiet.
 #![tactic(auto)]
 
 ghost use Rattle.std.specs.Prelude.{◌≡◌, ◌≤◌, ℕ, List, length, take, Option, IfOk, IfSome, OnOk, OnErr, IsErrOf};
@@ -19,9 +21,11 @@ mod adapters;
 mod calls;
 mod memory;
 mod streams;
+mod sure;
 
 pub use adapters::{DirFiles, StdSink, StdSource};
 pub use memory::{MemFiles, MemSink, MemSource};
+pub use sure::{SureFiles, SureSink, SureSource};
 
 /// Why a call of the outside gave up.
 #[derive(Clone, Copy, Debug, PartialEq, Eq)]

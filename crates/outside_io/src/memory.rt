@@ -7,25 +7,22 @@ ghost use Rattle.std.specs.Io.KnownBytes.{ReadConsumes, Appends};
 ghost use Rattle.outside_io.specs.declared.OutFault.TheVariants.{Failed, NoMemory};
 
 use crate::calls::{Calls, count_fault};
-use crate::{Files, OutFault, Sink, Source};
+use crate::{Files, OutFault, Sink, Source, SureFiles, SureSink, SureSource};
 use std::alloc::Global;
-use std::collections::BTreeMap;
 
 /// A source of bytes in memory. Its calls are numbered from 1, and those that are listed fail.
 #[derive(Drop)]
 pub struct MemSource {
-    bytes: Vec<u8>,
-    at: usize,
+    source: SureSource,
     calls: Calls,
     faults: u64,
-    ghost within: { at ≤ vec_len bytes },
 }
 
 /// A sink that keeps its bytes in memory. Its calls are numbered from 1, and those that are listed
 /// fail.
 #[derive(Drop)]
 pub struct MemSink {
-    bytes: Vec<u8>,
+    sink: SureSink,
     calls: Calls,
     faults: u64,
 }
@@ -33,24 +30,10 @@ pub struct MemSink {
 /// Files in memory. Their calls are numbered from 1, and those that are listed fail.
 #[derive(Drop)]
 pub struct MemFiles {
-    alloc: Global,
-    files: BTreeMap<String, Vec<u8>>,
+    files: SureFiles,
     calls: Calls,
     pub(crate) read_faults: u64,
     pub(crate) write_faults: u64,
-}
-
-/// Copies as many bytes from place `at` on as there is room for to the front of `buf`, and answers
-/// how many.
-fn copy_from(buf: &mut [u8], bytes: &[u8], at: usize) -> usize
-    ensures count { result ≡ min (length buf.new) (length (drop at bytes.now)) }
-    ensures front { take result buf.new ≡ take result (drop at bytes.now) }
-{
-    let start = at.min(bytes.len());
-    let rest = &bytes[start..];
-    let count = buf.len().min(rest.len());
-    buf[..count].copy_from_slice(&rest[..count]);
-    count
 }
 
 impl MemSource {
@@ -65,8 +48,7 @@ impl MemSource {
         ensures quiet { source_quiet result }
     {
         MemSource {
-            bytes: Vec::new(alloc),
-            at: 0,
+            source: SureSource::new(alloc),
             calls: Calls::new(alloc),
             faults: 0,
         }
@@ -80,10 +62,7 @@ impl MemSource {
         ensures calls { source_calls self.new ≡ source_calls self.old }
         ensures count { source_faults self.new ≡ source_faults self.old }
     {
-        match self.bytes.extend_from_slice(bytes) {
-            Ok(()) => Ok(()),
-            Err(_) => Err(OutFault::NoMemory),
-        }
+        self.source.give(bytes)
     }
 
     /// Lists the number of one more call that is to fail. After `NoMemory` nothing has changed.
@@ -125,9 +104,7 @@ impl Source for MemSource {
         ensures calm { source_quiet self.old → StaysQuiet (source_quiet self.new) result }
     {
         self.calls.next(&mut self.faults)?;
-        let count = copy_from(buf, &self.bytes, self.at);
-        self.at += count;
-        Ok(count)
+        self.source.read(buf)
     }
 }
 
@@ -143,7 +120,7 @@ impl MemSink {
         ensures quiet { sink_quiet result }
     {
         MemSink {
-            bytes: Vec::new(alloc),
+            sink: SureSink::new(alloc),
             calls: Calls::new(alloc),
             faults: 0,
         }
@@ -153,7 +130,7 @@ impl MemSink {
     pub fn bytes(&self) -> &[u8]
         ensures { result.now ≡ sink_bytes self.now }
     {
-        &self.bytes
+        self.sink.bytes()
     }
 
     /// Lists the number of one more call that is to fail. After `NoMemory` nothing has changed.
@@ -194,10 +171,7 @@ impl Sink for MemSink {
         ensures calm { sink_quiet self.old → StaysQuiet (sink_quiet self.new) result }
     {
         self.calls.next(&mut self.faults)?;
-        match self.bytes.extend_from_slice(piece) {
-            Ok(()) => Ok(()),
-            Err(_) => Err(OutFault::NoMemory),
-        }
+        self.sink.write(piece)
     }
 }
 
@@ -214,8 +188,7 @@ impl MemFiles {
         ensures quiet { files_quiet result }
     {
         MemFiles {
-            alloc,
-            files: BTreeMap::new(alloc),
+            files: SureFiles::new(alloc),
             calls: Calls::new(alloc),
             read_faults: 0,
             write_faults: 0,
@@ -226,10 +199,7 @@ impl MemFiles {
     pub fn bytes(&self, name: &str) -> Option<&[u8]>
         ensures { option_copied result ≡ files_held self.now name.now }
     {
-        match self.files.get(name) {
-            Some(bytes) => Some(bytes.as_slice()),
-            None => None,
-        }
+        self.files.bytes(name)
     }
 
     /// Holds the bytes under this name, in the place of what was there. After `NoMemory` nothing
@@ -243,16 +213,7 @@ impl MemFiles {
         ensures read_count { files_read_faults self.new ≡ files_read_faults self.old }
         ensures write_count { files_write_faults self.new ≡ files_write_faults self.old }
     {
-        let Ok(key) = String::from_str(self.alloc, name) else {
-            return Err(OutFault::NoMemory);
-        };
-        let Ok(content) = bytes.to_vec(self.alloc) else {
-            return Err(OutFault::NoMemory);
-        };
-        match self.files.insert(key, content) {
-            Ok(_) => Ok(()),
-            Err(_) => Err(OutFault::NoMemory),
-        }
+        self.files.put(name, bytes)
     }
 
     /// Lists the number of one more call that is to fail. After `NoMemory` nothing has changed.
@@ -297,10 +258,10 @@ impl Files for MemFiles {
         ensures other_count { files_write_faults self.new ≡ files_write_faults self.old }
     {
         self.calls.next(&mut self.read_faults)?;
-        match self.bytes(name) {
-            Some(bytes) => Ok(bytes.len() as u64),
-            None => Err(count_fault(&mut self.read_faults)),
+        if self.bytes(name).is_none() {
+            return Err(count_fault(&mut self.read_faults));
         }
+        self.files.size(name)
     }
 
     /// Fails exactly where the call's number is listed, or the name is not held; else it fills
@@ -319,10 +280,10 @@ impl Files for MemFiles {
         ensures other_count { files_write_faults self.new ≡ files_write_faults self.old }
     {
         self.calls.next(&mut self.read_faults)?;
-        let Some(bytes) = self.bytes(name) else {
+        if self.bytes(name).is_none() {
             return Err(count_fault(&mut self.read_faults));
-        };
-        Ok(copy_from(buf, bytes, at as usize))
+        }
+        self.files.read_at(name, at, buf)
     }
 
     /// Fails exactly where the call's number is listed. After an error, also where there is no
@@ -340,12 +301,11 @@ impl Files for MemFiles {
         ensures calm { files_quiet self.old → StaysQuiet (files_quiet self.new) result }
     {
         self.calls.next(&mut self.write_faults)?;
-        self.put(name, b"")
+        self.files.start(name)
     }
 
     /// Fails exactly where the call's number is listed, or the name is not held. After an error,
     /// also where there is no memory for the piece, nothing has changed.
-    #[tactic(auto, using(std::proofs::lemmas::Map::Text::text_keys))]
     fn append(&mut self, name: &str, piece: &[u8]) -> Result<(), OutFault>
         ensures named { OnOk result (Told (Some (files_held self.old)) (Some (files_held self.new)) (GrowsBy piece.now name.now)) }
         ensures after_error { OnErr result (Told (Some (files_held self.old)) (Some (files_held self.new)) (GrowsByPrefix piece.now name.now)) }
@@ -359,12 +319,9 @@ impl Files for MemFiles {
         ensures calm { files_quiet self.old → IsHeld (Some (files_held self.old)) name.now → StaysQuiet (files_quiet self.new) result }
     {
         self.calls.next(&mut self.write_faults)?;
-        let Some(content) = self.files.get_mut(name) else {
+        if self.bytes(name).is_none() {
             return Err(count_fault(&mut self.write_faults));
-        };
-        match content.extend_from_slice(piece) {
-            Ok(()) => Ok(()),
-            Err(_) => Err(OutFault::NoMemory),
         }
+        self.files.append(name, piece)
     }
 }

@@ -2,6 +2,7 @@
 
 use crate::{
     DirFiles, Files, MemFiles, MemSink, MemSource, OutFault, Sink, Source, StdSink, StdSource,
+    SureFiles, SureSink, SureSource,
 };
 use std::io::{ErrorKind, Read, Write};
 use std::process::Abort;
@@ -276,6 +277,57 @@ fn files_in_memory_are_started_and_appended_to(rt: HostRuntime) {
     expect_size(&rt, &mut files, "b", Err(OutFault::Failed));
     expect_read_at(&rt, &mut files, "a/b", 0, 8, Some(b"z"));
     assert_eq!(rt; (files.read_faults, files.write_faults), (2, 4));
+}
+
+// Calls on files that never fail: the name, the piece of an `append` or none for a `start`, and what the
+// named file holds then.
+static SURE_CHANGES: [(&str, Option<&[u8]>, &[u8]); 6] = [
+    ("made", Some(b"0"), b"0"),
+    ("made", Some(b"12"), b"012"),
+    ("kept", Some(b""), b"as it was"),
+    ("made", None, b""),
+    ("", Some(b"x"), b"x"),
+    ("new", None, b""),
+];
+
+// Reads of such files: the name, the place, the room of the buffer, and the bytes.
+static SURE_READS: [(&str, u64, usize, &[u8]); 5] = [
+    ("kept", 3, 4, b"it w"),
+    ("kept", 6, 8, b"was"),
+    ("kept", 18_446_744_073_709_551_615, 8, b""),
+    ("none", 0, 8, b""),
+    ("none", 5, 0, b""),
+];
+
+#[test]
+fn files_that_never_fail_make_what_they_do_not_hold(rt: HostRuntime) {
+    let mut files = SureFiles::new(rt.alloc());
+    assert!(rt; files.put("kept", b"old").is_ok() && files.put("kept", b"as it was").is_ok());
+    for (name, piece, held) in SURE_CHANGES.iter() {
+        expect_change(&rt, &mut files, name, *piece, Ok(()));
+        assert!(rt; files.bytes(name) == Some(*held), "{name}");
+    }
+    for (name, at, room, want) in SURE_READS.iter() {
+        expect_read_at(&rt, &mut files, name, *at, *room, Some(*want));
+    }
+    expect_size(&rt, &mut files, "kept", Ok(9));
+    expect_size(&rt, &mut files, "none", Ok(0));
+    assert!(rt; files.bytes("none").is_none());
+}
+
+#[test]
+fn a_source_and_a_sink_that_never_fail_keep_their_bytes(rt: HostRuntime) {
+    let mut source = SureSource::new(rt.alloc());
+    assert!(rt; source.give(b"hello, ").is_ok() && source.give(b"world").is_ok());
+    let rows: [(usize, &[u8]); 4] = [(5, b"hello"), (0, b""), (8, b", world"), (8, b"")];
+    for (room, want) in rows {
+        expect_read(&rt, &mut source, room, Some(want));
+    }
+    let mut sink = SureSink::new(rt.alloc());
+    expect_write(&rt, &mut sink, b"ab", Ok(()));
+    expect_write(&rt, &mut sink, b"", Ok(()));
+    expect_write(&rt, &mut sink, b"cd", Ok(()));
+    assert!(rt; sink.bytes() == b"abcd".as_slice());
 }
 
 #[test]

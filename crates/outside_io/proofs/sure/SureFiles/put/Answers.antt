@@ -1,6 +1,6 @@
 use Rattle.std.proofs.Common.{arith}
 use Rattle.std.proofs.lemmas.Map.Text.{text_keys}
-use Rattle.outside_io.proofs.memory.MemFiles.put.Goals as goal
+use Rattle.outside_io.proofs.sure.SureFiles.put.Goals as goal
 
 pub returns-in-Ok-insert-clause-others : goal.returns-in-Ok-insert-clause-others
 returns-in-Ok-insert-clause-others c = grind (arith, text_keys)

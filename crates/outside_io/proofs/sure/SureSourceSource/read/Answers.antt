@@ -1,5 +1,5 @@
 use Rattle.outside_io.proofs.ReadingLemmas.{next_bytes}
-use Rattle.outside_io.proofs.memory.MemSourceSource.read.Goals as goal
+use Rattle.outside_io.proofs.sure.SureSourceSource.read.Goals as goal
 
 pub returns-clause-bytes : goal.returns-clause-bytes
 returns-clause-bytes c =
