@@ -9,12 +9,13 @@ use Rattle.sim_config.specs.declared.values.Shape.{Shape}
 use Rattle.hart_turns.specs.declared.machine.TurnEnd.{TurnEnd}
 use Rattle.hart_turns.specs.declared.machine.TurnEnd.TheVariants.{Goes, Ended, BadHost}
 use Rattle.hart_turns.specs.Machine.{MachineState}
-use Rattle.hart_turns.specs.Turn.{Progress, Turned, begins, closed, end_of, looked_after, turned, window_after}
+use Rattle.hart_turns.specs.Turn.{Turned}
 use Rattle.outside_io.specs.Content.{Held, file_of}
 use Rattle.outside_acts.specs.Acts.{ReadTo, Append, filed, filed_by, with_file}
 use Rattle.outside_acts.proofs.Algebra.{filed_joined}
 use Rattle.outside_acts.proofs.Held.{with_file_named}
 use Rattle.job_words.specs.Job.{Logs}
+use Rattle.turn_runs.proofs.Windowless.{turned_shape}
 use Rattle.turn_runs.specs.Run.{Ran, goes_on, no_logs, run, send_acts, trace_lines, turn_acts, turn_on}
 use Rattle.trace_law.specs.Passing.{TurnPasses}
 use Rattle.trace_law.specs.Runs.{RunPasses, RunsPass, TraceIsEvents, next_events, run_events, traced_to}
@@ -44,16 +45,6 @@ same_run a b input m (suc n) =
     (same_on a b input (run a input m n) (run b input m n) (run a input m n).last one)
 
 -- ---- a run passes
-
-closed_shape : (m : MachineState) (offered : Option ℕ) (p : Progress) (end : TurnEnd) → (closed m offered p end).shape ≡ m.shape
-closed_shape m offered p Goes = refl
-closed_shape m offered p (Ended code) = refl
-closed_shape m offered p (BadHost word) = refl
-
-turned_shape : (m : MachineState) (offered : Option ℕ) → (turned m offered).machine.shape ≡ m.shape
-unfolding turned
-turned_shape m offered =
-    closed_shape m offered (looked_after m.shape.harts m.shape.slice m.shape.tohost (begins m)) (end_of (window_after m.shape.harts m.shape.slice m.shape.tohost (begins m)))
 
 one_turn : (core : CoreState) (m now : MachineState) (events : List Event) (t : Turned) → t.machine.shape ≡ now.shape → (one : RunPasses core m events now) → TurnPasses m.shape.tohost one.past now t → RunPasses core m (events ++ t.events) t.machine
 one_turn core m now events t shape one two = record {

@@ -5,3 +5,4 @@ pub mod Passing
 pub mod Resumes
 pub mod Runs
 pub mod Leaving
+pub mod Windowless

@@ -63,20 +63,20 @@ reached_more {bytes} {from} {xs} {ys} {m} {now} {feed} {a} {b} {c} stands does u
 
 -- ---- the turn
 
--- a machine's answer to a turn that is offered this byte
-pub record Turns (m : MachineState) (offered : Option ℕ) (view : MachineView) (end : TurnEnd) : Type 0 where
+-- a machine's answer to a turn that is offered this byte and logged so
+pub record Turns (logs : Logs) (m : MachineState) (offered : Option ℕ) (view : MachineView) (end : TurnEnd) : Type 0 where
   pub end_is : end ≡ (turned m offered).end
   pub machine_is : view.machine ≡ (turned m offered).machine
   pub console_is : view.console ≡ (turned m offered).console
-  pub events_are : view.events ≡ (turned m offered).events
+  pub logged_are : log_acts logs view.events ≡ log_acts logs (turned m offered).events
   pub least : m.taken ≤ view.machine.taken
   pub most : view.machine.taken ≤ m.taken + 1
 
-pub turn_made : {bytes : List ℕ} {from : ℕ} {m : MachineState} {view : MachineView} {end : TurnEnd} {was : Bool}
+pub turn_made : {logs : Logs} {bytes : List ℕ} {from : ℕ} {m : MachineState} {view : MachineView} {end : TurnEnd} {was : Bool}
     {feed filled now : Feed} {a b : World} → Fills feed filled a b → IsFedFrom bytes m.taken from feed a.left
-    → Turns m filled.byte view end → was ≡ not (view.machine.taken == m.taken)
-    → now.byte ≡ (if was then None else filled.byte) → now.ended ≡ filled.ended → IsTurned bytes from m view end now a b
-turn_made {bytes} {from} {m} {view} {end} {was} {feed} {filled} {now} {a} {b} fills fed turns was_is byte ended =
+    → Turns logs m filled.byte view end → was ≡ not (view.machine.taken == m.taken)
+    → now.byte ≡ (if was then None else filled.byte) → now.ended ≡ filled.ended → IsTurned logs bytes from m view end now a b
+turn_made {logs} {bytes} {from} {m} {view} {end} {was} {feed} {filled} {now} {a} {b} fills fed turns was_is byte ended =
     let whole = fills.filled bytes m.taken fed.fed in
     let on : turned m filled.byte ≡ turn_on bytes m = ap (λ (offered : Option ℕ). turned m offered) whole.next_is in
     let did : Did bytes from (ReadTo (m.taken + 1) ∷ []) a b = did_read from fills.rest whole.left_is in
@@ -84,7 +84,7 @@ turn_made {bytes} {from} {m} {view} {end} {was} {feed} {filled} {now} {a} {b} fi
     record {
       end_is = turns.end_is ∙ ap (λ (t : Turned). t.end) on;
       console_is = turns.console_is ∙ ap (λ (t : Turned). t.console) on;
-      events_are = turns.events_are ∙ ap (λ (t : Turned). t.events) on;
+      logged_are = turns.logged_are ∙ ap (λ (t : Turned). log_acts logs t.events) on;
       reached = record {
         machine = turns.machine_is ∙ ap (λ (t : Turned). t.machine) on;
         fed = record {
@@ -104,18 +104,18 @@ runs_still is runs = subst (λ (m : MachineState). IsTrue (is_running m)) (sym i
 
 -- ---- a turn that is shown, or cut
 
-sent_on : {bytes : List ℕ} {from : ℕ} {m : MachineState} {view : MachineView} {end : TurnEnd} {feed : Feed} {a b : World}
-    (Says : List Act → Type 0) → IsTurned bytes from m view end feed a b → Says (send_acts view.console)
+sent_on : {logs : Logs} {bytes : List ℕ} {from : ℕ} {m : MachineState} {view : MachineView} {end : TurnEnd} {feed : Feed} {a b : World}
+    (Says : List Act → Type 0) → IsTurned logs bytes from m view end feed a b → Says (send_acts view.console)
     → Says (send_acts (turn_on bytes m).console)
 sent_on Says made says = subst (λ (zs : List ℕ). Says (send_acts zs)) made.console_is says
 
 logged_on : {bytes : List ℕ} {from : ℕ} {m : MachineState} {view : MachineView} {end : TurnEnd} {feed : Feed}
-    {a b : World} (logs : Logs) (Says : List Act → Type 0) → IsTurned bytes from m view end feed a b
+    {a b : World} (logs : Logs) (Says : List Act → Type 0) → IsTurned logs bytes from m view end feed a b
     → Says (log_acts logs view.events) → Says (log_acts logs (turn_on bytes m).events)
-logged_on logs Says made says = subst (λ (es : List Event). Says (log_acts logs es)) made.events_are says
+logged_on logs Says made says = subst Says made.logged_are says
 
 pub turn_shown : (logs : Logs) {bytes : List ℕ} {from : ℕ} {m : MachineState} {view : MachineView} {end : TurnEnd}
-    {feed : Feed} {a b c d : World} → IsTurned bytes from m view end feed a b → Does (send_acts view.console) b c
+    {feed : Feed} {a b c d : World} → IsTurned logs bytes from m view end feed a b → Does (send_acts view.console) b c
     → Does (log_acts logs view.events) c d → IsShown logs bytes from m view.machine end feed a d
 turn_shown logs {bytes} {from} {m} {b = b} {c = c} {d = d} made shown logged =
     let sent = sent_on (λ acts. Does acts b c) made shown in
@@ -133,7 +133,7 @@ turn_unmade logs {bytes = bytes} m cut =
 
 -- the console failed, or memory lacked for its bytes
 pub turn_unsent : (logs : Logs) {stop : Stop} {bytes : List ℕ} {from : ℕ} {m : MachineState} {view : MachineView}
-    {end : TurnEnd} {feed : Feed} {a b c : World} → IsTurned bytes from m view end feed a b
+    {end : TurnEnd} {feed : Feed} {a b c : World} → IsTurned logs bytes from m view end feed a b
     → Stops stop (send_acts view.console) b c → DidCut stop bytes from (turn_acts logs m (turn_on bytes m)) a c
 turn_unsent logs {stop} {bytes} {m = m} {b = b} {c = c} made cut =
     let sent = sent_on (λ acts. Stops stop acts b c) made cut in
@@ -142,7 +142,7 @@ turn_unsent logs {stop} {bytes} {m = m} {b = b} {c = c} made cut =
 
 -- a log failed, or memory lacked for its lines
 pub turn_unlogged : (logs : Logs) {stop : Stop} {bytes : List ℕ} {from : ℕ} {m : MachineState} {view : MachineView}
-    {end : TurnEnd} {feed : Feed} {a b c d : World} → IsTurned bytes from m view end feed a b
+    {end : TurnEnd} {feed : Feed} {a b c d : World} → IsTurned logs bytes from m view end feed a b
     → Does (send_acts view.console) b c → Stops stop (log_acts logs view.events) c d
     → DidCut stop bytes from (turn_acts logs m (turn_on bytes m)) a d
 turn_unlogged logs {stop} {bytes} {b = b} {c = c} {d = d} made shown cut =
@@ -158,6 +158,11 @@ sends_none [] a is = does_none a
 sends_none (b ∷ bs) a is = absurd (omega arith)
 
 -- there is no log
+pub logs_same : (logs : Logs) (events others : List Event) → logs.trace ≡ None → log_acts logs events ≡ log_acts logs others
+logs_same logs events others none =
+    ap (λ (file : Option (List ℕ)). append_acts file (trace_lines events)) none
+    ∙ sym (ap (λ (file : Option (List ℕ)). append_acts file (trace_lines others)) none)
+
 pub logs_none : (logs : Logs) (events : List Event) (a : World) → logs.trace ≡ None → Does (log_acts logs events) a a
 logs_none logs events a none =
     subst (λ (file : Option (List ℕ)). Does (append_acts file (trace_lines events)) a a) (sym none) (does_none a)

@@ -3,3 +3,4 @@ pub mod Run
 pub mod Resuming
 pub mod Reaching
 pub mod Leaves
+pub mod Windowless

@@ -8,7 +8,7 @@ use Rattle.outside_acts.specs.World.{Counted, Reading, Writing, TheInput, Consol
 use Rattle.turn_runs.specs.declared.feed.Feed.{Feed}
 use Rattle.turn_runs.specs.Feeding.{IsFedFrom}
 use Rattle.job_words.specs.Job.{Logs}
-use Rattle.turn_runs.specs.Run.{Ran, turn_acts, turn_on}
+use Rattle.turn_runs.specs.Run.{Ran, log_acts, turn_acts, turn_on}
 
 -- ---- over a told input
 
@@ -24,12 +24,12 @@ pub record Reached (bytes : List ℕ) (from : ℕ) (acts : List Act) (m now : Ma
   pub fed : IsFedFrom bytes now.taken (read acts from) feed after.left
   pub did : Did bytes from acts before after
 
--- a turn was made, for which the input was read
-pub record IsTurned (bytes : List ℕ) (from : ℕ) (m : MachineState) (view : MachineView) (end : TurnEnd) (feed : Feed)
-    (before after : World) : Type 0 where
+-- a turn was made, for which the input was read. What is logged of its events is at hand
+pub record IsTurned (logs : Logs) (bytes : List ℕ) (from : ℕ) (m : MachineState) (view : MachineView) (end : TurnEnd)
+    (feed : Feed) (before after : World) : Type 0 where
   pub end_is : end ≡ (turn_on bytes m).end
   pub console_is : view.console ≡ (turn_on bytes m).console
-  pub events_are : view.events ≡ (turn_on bytes m).events
+  pub logged_are : log_acts logs view.events ≡ log_acts logs (turn_on bytes m).events
   pub reached : Reached bytes from (ReadTo (m.taken + 1) ∷ []) (turn_on bytes m).machine view.machine feed before after
 
 -- the same, and its console bytes and its lines were written

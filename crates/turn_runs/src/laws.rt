@@ -1,4 +1,4 @@
-//! What a cut leaves, in plain words, as the contract of a call that does nothing.
+//! What follows from the definitions of a run, each law as the contract of a call that does nothing.
 
 ghost use Rattle.std.specs.Prelude.{List, ℕ};
 ghost use Rattle.hart_turns.specs.Machine.{MachineState};
@@ -7,10 +7,17 @@ ghost use Rattle.outside_acts.specs.Acts.{Act, IsCut};
 ghost use Rattle.turn_runs.specs.Leaves.{RunLeaves};
 ghost use Rattle.job_words.specs.Job.{Logs};
 ghost use Rattle.turn_runs.specs.Run.{run};
+ghost use Rattle.turn_runs.specs.Windowless.{WindowlessRunsGoOn};
 
 /// A cut of a run's acts leaves k whole turns, none of which ended, and of the next one a part.
 pub fn cut_in_turn()
     ensures { (stop : Stop) (logs : Logs) (bytes : List ℕ) (from : ℕ) (m : MachineState) (turns : ℕ)
         (front : List Act) →
         IsCut stop from (run logs bytes m turns).acts front → RunLeaves stop logs bytes from m turns front }
+{}
+
+/// No turn ends a run of a machine without a host window.
+#[tactic(auto, using(crate::proofs::Windowless::windowless_runs_go_on))]
+pub fn windowless_runs_go_on()
+    ensures { WindowlessRunsGoOn }
 {}

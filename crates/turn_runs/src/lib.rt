@@ -12,6 +12,6 @@ mod running;
 mod turns;
 
 pub use feed::Feed;
-pub use laws::cut_in_turn;
+pub use laws::{cut_in_turn, windowless_runs_go_on};
 pub use resuming::resume;
 pub use running::{Ran, has_ended, run};

@@ -3,6 +3,7 @@
 ghost use Rattle.std.specs.Prelude.{◌≡◌, ◌<◌, ◌≤◌, ◌+◌, ◌++◌, ◌∷◌, [], All, IfErr, IfOk, IsTrue, OnOk};
 ghost use Rattle.hart_step.specs.Events.{IsEvent};
 ghost use Rattle.hart_turns.specs.Machine.{is_running};
+ghost use Rattle.hart_turns.specs.Turn.{turned};
 ghost use Rattle.outside_acts.specs.Acts.{DidCut, ReadTo};
 ghost use Rattle.outside_acts.specs.Calls.{Caused, Does, GoesQuietly, Only, Stops};
 ghost use Rattle.outside_acts.specs.World.{Console, TheInput};
@@ -17,15 +18,33 @@ use job_words::Logs;
 use outside_acts::{Outside, Stop};
 use std::alloc::AllocError;
 
+/// Makes a turn that is offered a byte, or none. Its events are kept where they are logged.
+fn turn(machine: &mut Machine, offered: Option<u8>, logs: &Logs<'_>) -> TurnEnd
+    requires { machine.old.machine.taken < 2_000_000_000_000 }
+    ensures end { result ≡ (turned machine.old.machine offered).end }
+    ensures machine { machine.new.machine ≡ (turned machine.old.machine offered).machine }
+    ensures console { machine.new.console ≡ (turned machine.old.machine offered).console }
+    ensures logged { log_acts logs.now machine.new.events
+        ≡ log_acts logs.now (turned machine.old.machine offered).events }
+    ensures grows { machine.old.machine.taken ≤ machine.new.machine.taken }
+    ensures at_most_one { machine.new.machine.taken ≤ machine.old.machine.taken + 1 }
+{
+    match logs.trace() {
+        Some(_) => machine.turn(offered),
+        None => machine.turn_unseen(offered),
+    }
+}
+
 /// Reads the byte that is offered, and makes the turn.
 fn make_turn<W: Outside>(
     machine: &mut Machine,
     feed: &mut Feed,
+    logs: &Logs<'_>,
     outside: &mut W,
 ) -> Result<TurnEnd, Stop>
     requires { machine.old.machine.taken < 2_000_000_000_000 }
     ensures turned { IfOk result (λ end. OverInput machine.old.machine feed.old (W.world outside.old) (λ bytes from.
-        IsTurned bytes from machine.old.machine machine.new end
+        IsTurned logs.now bytes from machine.old.machine machine.new end
         feed.new (W.world outside.old) (W.world outside.new))) }
     ensures cut { IfErr result (λ stop. OverInput machine.old.machine feed.old (W.world outside.old) (λ bytes from.
         DidCut stop bytes from (ReadTo (machine.old.machine.taken + 1) ∷ [])
@@ -41,7 +60,7 @@ fn make_turn<W: Outside>(
     }
     machine.see_fit();
     let before = machine.taken();
-    let end = machine.turn(feed.byte);
+    let end = turn(machine, feed.byte, logs);
     feed.offered(machine.taken() != before);
     Ok(end)
 }
@@ -122,7 +141,7 @@ pub(crate) fn run_turn<W: Outside>(
     ensures takes_one { machine.new.machine.taken ≤ machine.old.machine.taken + 1 }
     ensures running { IsTrue (is_running machine.old.machine) → IsTrue (is_running machine.new.machine) }
 {
-    let end = match make_turn(machine, feed, outside) {
+    let end = match make_turn(machine, feed, logs, outside) {
         Ok(end) => end,
         Err(stop) => return Err(stop),
     };

@@ -14,7 +14,7 @@ returns-clause-turned g c = λ bytes from fed.
       end_is = turn.end;
       machine_is = turn.machine;
       console_is = turn.console;
-      events_are = turn.events;
+      logged_are = turn.logged;
       least = turn.grows;
       most = turn.at_most_one;
     })
