@@ -6,3 +6,4 @@ pub mod WholeLines
 pub mod Faults
 pub mod Prefix
 pub mod Meanings
+pub mod Allowed

@@ -1,5 +1,5 @@
 -- The verdict in the words of records: the greatest prefix that passes, and what refuses the record after it.
-use Rattle.std.specs.Prelude.{◌≡◌, ◌≤◌, ℕ, zero, suc, Bool, false, List, [], ◌∷◌, ◌++◌, length, take, Some, None, IsFalse, IsTrue}
+use Rattle.std.specs.Prelude.{◌≡◌, ◌≤◌, ℕ, zero, suc, Bool, true, false, List, [], ◌∷◌, ◌++◌, length, take, Some, None, IsFalse, IsTrue}
 use Rattle.hart_step.specs.declared.event.Event.{Event}
 use Rattle.hart_step.specs.Harts.{CoreState}
 use Rattle.commit_log.specs.Column.{IsColumn}
@@ -7,6 +7,7 @@ use Rattle.commit_log.specs.Spelling.{IsSpellable, line}
 use Rattle.cosim_check.specs.declared.verdict.Verdict.{Verdict}
 use Rattle.cosim_check.specs.declared.verdict.Verdict.TheVariants.{Passing, Disallowed, BadLine, TooMany}
 use Rattle.cosim_check.specs.Fields.{first_difference}
+use Rattle.cosim_check.specs.Lines.{judged}
 use Rattle.cosim_check.specs.Records.{Allows, core_past, fault_of}
 use Rattle.cosim_check.specs.Verdicts.{IsFinal, deciding, goes_on, verdict_of}
 
@@ -81,6 +82,15 @@ ShowsOther (TooMany n) = Unit {0}
 
 abbrev pub RefusedDiffers : Type 0
 RefusedDiffers = (core : CoreState) (tohost most : ℕ) (bytes : List ℕ) (ended : Bool) → ShowsOther (verdict_of core tohost most bytes ended)
+
+-- ---- streams of allowed records
+
+-- a stream that has ended passes where each of its lines is that of a record that is allowed after those before it, and
+-- no more of them come than may
+abbrev pub AllowedPass : Type 0
+AllowedPass = (core : CoreState) (tohost most : ℕ) (bytes : List ℕ) (past : CoreState) →
+    length (judged bytes true) ≤ most → Passes core tohost (judged bytes true) past →
+    verdict_of core tohost most bytes true ≡ Passing (length (judged bytes true))
 
 -- ---- longer streams
 

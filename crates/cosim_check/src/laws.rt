@@ -1,6 +1,6 @@
 //! Laws of the definitions, each as the contract of a call that does nothing.
 
-ghost use Rattle.cosim_check.specs.Laws.{FaultsFound, FieldsTellAll, PrefixGreatest, RefusedDiffers, VerdictMeant, VerdictStays};
+ghost use Rattle.cosim_check.specs.Laws.{AllowedPass, FaultsFound, FieldsTellAll, PrefixGreatest, RefusedDiffers, VerdictMeant, VerdictStays};
 
 /// Two records that differ in no field are one record.
 pub fn fields_tell_all()
@@ -25,6 +25,11 @@ pub fn refused_differs()
 /// What each verdict says of the records that passed and of the line after them.
 pub fn verdict_means()
     ensures { VerdictMeant }
+{}
+
+/// A stream of allowed records, no more than may come, passes.
+pub fn allowed_streams_pass()
+    ensures { AllowedPass }
 {}
 
 /// A verdict other than `Passing` is that of every longer stream.

@@ -17,7 +17,7 @@ mod verdict;
 
 pub use judge::Judge;
 pub use laws::{
-    faults_are_found, fields_tell_all, prefix_is_greatest, refused_differs, verdict_means,
-    verdict_stays,
+    allowed_streams_pass, faults_are_found, fields_tell_all, prefix_is_greatest, refused_differs,
+    verdict_means, verdict_stays,
 };
 pub use verdict::{Field, Verdict};
