@@ -1,4 +1,5 @@
 pub mod Begins
+pub mod HexDigits
 pub mod Classes
 pub mod Works
 pub mod Jobs
@@ -6,3 +7,6 @@ pub mod Answered
 pub mod Restored
 pub mod Later
 pub mod Passed
+pub mod Accepted
+pub mod Complete
+pub mod BegunFit

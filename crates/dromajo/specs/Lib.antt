@@ -4,4 +4,5 @@ pub mod Jobs
 pub mod Laws
 pub mod Report
 pub mod TopCall
+pub mod Complete
 pub mod Works

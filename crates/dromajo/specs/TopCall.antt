@@ -174,6 +174,8 @@ pub record Reports (answered before : Status) (line : List ℕ) (old new : Repor
   pub status : IsBefore before answered
   pub whole : (Rose old.faults new.faults → ⊥) → answered ≢ NoMemory → Appends old.written new.written line
   pub prefix : (n : ℕ) × Appends old.written new.written (take n line)
+  -- one write at the most failed
+  pub once : (new.faults ≡ old.faults) ⊎ Rose old.faults new.faults
 
 -- there is a status before the report, which has its causes and whose line was written, and the call leaves what the
 -- job leaves that ended with it

@@ -8,12 +8,18 @@ mod boot_roms;
 #[cfg(test)]
 mod cosim_tests;
 #[cfg(test)]
+mod cut_tests;
+#[cfg(test)]
 mod example_images;
 #[cfg(test)]
 mod example_tests;
 #[cfg(test)]
 mod fault_tests;
 mod laws;
+#[cfg(test)]
+mod line_tests;
+#[cfg(test)]
+mod load_fault_tests;
 #[cfg(test)]
 mod load_tests;
 #[cfg(test)]
@@ -33,6 +39,8 @@ mod status;
 #[cfg(test)]
 mod stream_tests;
 #[cfg(test)]
+mod sure_tests;
+#[cfg(test)]
 mod test_files;
 #[cfg(test)]
 mod test_support;
@@ -44,7 +52,10 @@ mod word_tests;
 mod work;
 
 pub use job_words::MOST_TURNS;
-pub use laws::{later_equal, own_trace_passes};
+pub use laws::{
+    allowed_streams_pass, begun_is_fit, later_equal, own_files_are_accepted, own_trace_passes,
+    seeds_are_done,
+};
 use outside_io::{DirFiles, StdSink, StdSource};
 pub use status::{Status, Tally, Which};
 use std::alloc::AllocError;

@@ -45,7 +45,7 @@ pub(crate) struct Call<'a> {
     pub(crate) fails: [u64; 4],
     // The number of the status, the report and the console's bytes.
     pub(crate) code: u8,
-    pub(crate) report: &'static str,
+    pub(crate) report: &'a str,
     pub(crate) console: &'static str,
     // Files after the call, and what the input has left: none where its next read is the one that fails.
     pub(crate) after: &'static [File],
@@ -213,7 +213,7 @@ fn expect_one_report(rt: &impl Abort, report: &mut MemSink, note: &str) {
 }
 
 // Puts the files of a call to those that are there, makes the call over them, and compares what comes of it.
-fn expect_over(
+pub(crate) fn expect_over(
     rt: &impl Abort,
     alloc: Global,
     files: &mut MemFiles,

@@ -6,6 +6,7 @@ ghost use Rattle.outside_acts.specs.World.{NonePassedOver};
 ghost use Rattle.job_words.specs.CommandLine.{job_of, texts};
 ghost use Rattle.job_words.specs.Seen.{IsNamed, job_seen};
 ghost use Rattle.dromajo.specs.Classes.{IsBefore, IsFault, IsFinished, IsSettled, IsUsage, failed_report};
+ghost use Rattle.dromajo.specs.Complete.{MayAnswer};
 ghost use Rattle.dromajo.specs.Jobs.{HoldsJob, refusal_of};
 ghost use Rattle.dromajo.specs.Report.{report_line};
 ghost use Rattle.dromajo.specs.TopCall.{AnswersRefusal, AreQuiet, HasCause, HasJobCause, JobLeaves, Leaves, NoneRose, Reported, Reports, RestoresSaved, SendsFront, report_of, told_of};
@@ -182,6 +183,14 @@ pub fn dromajo<F: Files, I: Source, O: Sink, E: Sink>(
         (told_of F.Files I.Source O.Sink files.old input.old out.old)
         (told_of F.Files I.Source O.Sink files.new input.new out.new)
         (report_of E.Sink report.old) (report_of E.Sink report.new) }
+
+    // Where no count rose, and what is outside is told, the call answers what the job may come to and nothing else: that
+    // the words are no job, the refusal that the files give, an end of its work; or that memory lacked.
+    ensures answers { NoneRose
+        (told_of F.Files I.Source O.Sink files.old input.old out.old)
+        (told_of F.Files I.Source O.Sink files.new input.new out.new)
+        (report_of E.Sink report.old) (report_of E.Sink report.new) →
+        MayAnswer (job_of (texts words.now.items)) (told_of F.Files I.Source O.Sink files.old input.old out.old) result }
 
     // The report has the line of the status before it, which has its causes; and the call leaves what the job leaves
     // that ended with that status: all its acts, or, after a fault or for want of memory, those before the act that

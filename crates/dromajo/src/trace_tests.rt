@@ -65,7 +65,7 @@ const OLD: File = ("t", Text("what stood there before\n"));
 const NOWHERE_LINES: &str = "C 0 M 0000000080000000 000102b7 x5 0000000000010000\n\
                              X 0 M 0000000080000004 5 0000000000010000\n";
 
-static TRACED: [Call<'static>; 6] = [
+static TRACED: [Call<'static>; 8] = [
     Call {
         line: "run --config c --turns 7 --trace t",
         files: &[("c", Text(TWO_HARTS)), ("p.elf", Program(&RESERVES)), OLD],
@@ -190,6 +190,21 @@ static TRACED: [Call<'static>; 6] = [
             ),
             ("t", Absent),
         ],
+        ..NOTHING
+    },
+    // and so are the program and the image
+    Call {
+        line: "run --config c --turns 2 --trace p.elf",
+        files: &[("c", Text(ONE_STEP)), ("p.elf", Program(&NOWHERE))],
+        report: "done turns=2 taken=0\n",
+        after: &[("c", Text(ONE_STEP)), ("p.elf", Text(NOWHERE_LINES))],
+        ..NOTHING
+    },
+    Call {
+        line: "run --image a.bin --turns 0 --trace a.bin",
+        files: &[("a.bin", Image(&NOWHERE, 0))],
+        report: "done turns=0 taken=0\n",
+        after: &[("a.bin", Text(""))],
         ..NOTHING
     },
 ];
