@@ -1,5 +1,5 @@
 -- When a call of the outside may answer a fault: by the object's count of faults, before and after.
-use Rattle.std.specs.Prelude.{◌≡◌, ℕ, ◌+◌, ◌-◌, ◌^◌, ◌<◌, ◌≤◌, min, Result, Ok, Err, OnOk, IsErrOf}
+use Rattle.std.specs.Prelude.{◌≡◌, ℕ, ◌+◌, ◌-◌, ◌^◌, ◌<◌, ◌≤◌, min, Result, OnOk, IsErrOf}
 use Rattle.outside_io.specs.declared.OutFault.{OutFault}
 use Rattle.outside_io.specs.declared.OutFault.TheVariants.{Failed, NoMemory}
 
@@ -30,12 +30,6 @@ pub record HasCause {T : Type 0} (before now : ℕ) (result : Result T OutFault)
   pub kept : OnOk result (now ≡ before)
   -- and so does want of memory
   pub starved : IsErrOf result NoMemory → now ≡ before
-
--- the count is one more after `Failed`, and the same after every other answer
-abbrev pub CountsFailed : {T : Type 0} → ℕ → ℕ → Result T OutFault → Type 0
-CountsFailed before now (Ok x) = now ≡ before
-CountsFailed before now (Err Failed) = now ≡ raised before
-CountsFailed before now (Err NoMemory) = now ≡ before
 
 -- what a call of a quiet object says: it did not fail, and the object is quiet still
 pub record StaysQuiet {T : Type 0} (quiet_now : Type 0) (result : Result T OutFault) : Type 0 where

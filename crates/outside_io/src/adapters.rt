@@ -5,7 +5,7 @@ ghost use Rattle.std.specs.Option.{option_map};
 ghost use Rattle.std.specs.Io.{ReadsAtMost};
 ghost use Rattle.std.specs.Io.KnownBytes.{ReadConsumes, Appends};
 ghost use Rattle.outside_io.specs.declared.OutFault.TheVariants.{Failed, NoMemory};
-ghost use Rattle.outside_io.specs.Causes.{HasCause, CountsFailed};
+ghost use Rattle.outside_io.specs.Causes.{HasCause};
 ghost use Rattle.outside_io.specs.Content.{Told};
 ghost use Rattle.outside_io.specs.Adapters.{std_source_reader, std_source_faults, std_sink_writer, std_sink_faults, dir_files_runtime, dir_files_read_faults, dir_files_write_faults, dir_files_kept, IsOpenedBy};
 
@@ -75,7 +75,6 @@ impl<R: Read + Drop> Source for StdSource<R> {
         ensures bytes { ReadConsumes (R.remaining (std_source_reader self.old)) (R.remaining (std_source_reader self.new)) result buf.new }
         ensures cause { HasCause (std_source_faults self.old) (std_source_faults self.new) result }
         ensures never_starved { IsErrOf result NoMemory → ⊥ }
-        ensures count { CountsFailed (std_source_faults self.old) (std_source_faults self.new) result }
     {
         match read_once(&mut self.reader, buf) {
             Ok(count) => Ok(count),
@@ -110,7 +109,6 @@ impl<W: Write + Drop> Sink for StdSink<W> {
         ensures prefix { OnErr result ((n : ℕ) × (n ≤ length piece.now) × Appends (W.contents (std_sink_writer self.old)) (W.contents (std_sink_writer self.new)) (take n piece.now)) }
         ensures cause { HasCause (std_sink_faults self.old) (std_sink_faults self.new) result }
         ensures never_starved { IsErrOf result NoMemory → ⊥ }
-        ensures count { CountsFailed (std_sink_faults self.old) (std_sink_faults self.new) result }
     {
         match write_whole(&mut self.writer, piece) {
             Ok(()) => Ok(()),
@@ -226,7 +224,6 @@ impl<R: FileAccess + AllocGlobal + Drop> Files for DirFiles<R> {
     fn size(&mut self, name: &str) -> Result<u64, OutFault>
         ensures cause { HasCause (dir_files_read_faults self.old) (dir_files_read_faults self.new) result }
         ensures never_starved { IsErrOf result NoMemory → ⊥ }
-        ensures count { CountsFailed (dir_files_read_faults self.old) (dir_files_read_faults self.new) result }
         ensures other_count { dir_files_write_faults self.new ≡ dir_files_write_faults self.old }
         ensures kept { dir_files_kept self.new ≡ dir_files_kept self.old }
     {
@@ -242,7 +239,6 @@ impl<R: FileAccess + AllocGlobal + Drop> Files for DirFiles<R> {
         ensures bound { ReadsAtMost result buf.new }
         ensures cause { HasCause (dir_files_read_faults self.old) (dir_files_read_faults self.new) result }
         ensures never_starved { IsErrOf result NoMemory → ⊥ }
-        ensures count { CountsFailed (dir_files_read_faults self.old) (dir_files_read_faults self.new) result }
         ensures other_count { dir_files_write_faults self.new ≡ dir_files_write_faults self.old }
         ensures kept { dir_files_kept self.new ≡ dir_files_kept self.old }
     {
@@ -257,7 +253,6 @@ impl<R: FileAccess + AllocGlobal + Drop> Files for DirFiles<R> {
     fn start(&mut self, name: &str) -> Result<(), OutFault>
         ensures cause { HasCause (dir_files_write_faults self.old) (dir_files_write_faults self.new) result }
         ensures never_starved { IsErrOf result NoMemory → ⊥ }
-        ensures count { CountsFailed (dir_files_write_faults self.old) (dir_files_write_faults self.new) result }
         ensures other_count { dir_files_read_faults self.new ≡ dir_files_read_faults self.old }
         ensures open { OnOk result (IsSomeAnd (dir_files_kept self.new) (IsOpenedBy name.now)) }
         ensures closed { OnErr result (IsNone (dir_files_kept self.new)) }
@@ -280,7 +275,6 @@ impl<R: FileAccess + AllocGlobal + Drop> Files for DirFiles<R> {
     fn append(&mut self, name: &str, piece: &[u8]) -> Result<(), OutFault>
         ensures cause { HasCause (dir_files_write_faults self.old) (dir_files_write_faults self.new) result }
         ensures never_starved { IsErrOf result NoMemory → ⊥ }
-        ensures count { CountsFailed (dir_files_write_faults self.old) (dir_files_write_faults self.new) result }
         ensures other_count { dir_files_read_faults self.new ≡ dir_files_read_faults self.old }
         ensures open { OnOk result (IsSomeAnd (dir_files_kept self.new) (IsOpenedBy name.now)) }
         ensures closed { OnErr result (IsNone (dir_files_kept self.new)) }

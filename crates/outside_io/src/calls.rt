@@ -2,7 +2,7 @@
 
 ghost use Rattle.std.specs.Prelude.{◌≡◌, ◌≤◌, ◌↔◌, [], ◌∷◌, ◌++◌, Contains, IsTrue, OnOk, OnErr, IsErrOf};
 ghost use Rattle.outside_io.specs.declared.OutFault.TheVariants.{Failed, NoMemory};
-ghost use Rattle.outside_io.specs.Causes.{raised, CountsFailed};
+ghost use Rattle.outside_io.specs.Causes.{HasCause, raised};
 
 use crate::OutFault;
 use std::alloc::Global;
@@ -64,8 +64,7 @@ impl Calls {
         ensures never_starved { IsErrOf result NoMemory → ⊥ }
         ensures listed { self.new.listed.items ≡ self.old.listed.items }
         ensures made { self.new.made ≡ raised self.old.made }
-        ensures count { CountsFailed faults.old faults.new result }
-        ensures later { faults.old ≤ faults.new }
+        ensures cause { HasCause faults.old faults.new result }
     {
         self.made = self.made.saturating_add(1);
         if self.is_listed(self.made) {

@@ -2,8 +2,8 @@
 //!
 //! Each trait has a meaning that may be told or not (the bytes that are left, the bytes written,
 //! what each file holds) and a count of faults, which is one more after each call that fails. So code
-//! that is generic over a trait cannot make up a fault, pass one over, or try a call again, without its
-//! count telling. An object may also say that it is quiet: it is known to fail at no call, and its
+//! that is generic over a trait cannot make up a fault, pass one over, or try a call that failed again, without
+//! its count telling. An object may also say that it is quiet: it is known to fail at no call, and its
 //! counts stand below their last value, so that no count of a quiet object is said to have risen. The
 //! objects in memory tell all, those of the `Mem` kinds failing at the calls that are listed, and those
 //! of the `Sure` kinds at none; the adapters over the standard library tell what the standard library

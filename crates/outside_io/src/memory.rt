@@ -78,7 +78,7 @@ impl MemSource {
 }
 
 impl Source for MemSource {
-    ghost use Rattle.outside_io.specs.Causes.{HasCause, CountsFailed, StaysQuiet};
+    ghost use Rattle.outside_io.specs.Causes.{HasCause, StaysQuiet};
     ghost use Rattle.outside_io.specs.Calls.{IsToFail, OneMore};
     ghost use Rattle.outside_io.specs.Memory.{source_left, source_calls, source_faults, source_quiet};
 
@@ -100,7 +100,6 @@ impl Source for MemSource {
         ensures fails { IsErrOf result Failed ↔ IsToFail (source_calls self.old) }
         ensures fills { IfOk result (λ n. n ≡ min (length buf.new) (length (source_left self.old))) }
         ensures calls { OneMore (source_calls self.old) (source_calls self.new) }
-        ensures count { CountsFailed (source_faults self.old) (source_faults self.new) result }
         ensures calm { source_quiet self.old → StaysQuiet (source_quiet self.new) result }
     {
         self.calls.next(&mut self.faults)?;
@@ -146,7 +145,7 @@ impl MemSink {
 }
 
 impl Sink for MemSink {
-    ghost use Rattle.outside_io.specs.Causes.{HasCause, CountsFailed, StaysQuiet};
+    ghost use Rattle.outside_io.specs.Causes.{HasCause, StaysQuiet};
     ghost use Rattle.outside_io.specs.Calls.{IsToFail, OneMore};
     ghost use Rattle.outside_io.specs.Memory.{sink_bytes, sink_calls, sink_faults, sink_quiet};
 
@@ -167,7 +166,6 @@ impl Sink for MemSink {
         ensures fails { IsErrOf result Failed ↔ IsToFail (sink_calls self.old) }
         ensures nothing { OnErr result (sink_bytes self.new ≡ sink_bytes self.old) }
         ensures calls { OneMore (sink_calls self.old) (sink_calls self.new) }
-        ensures count { CountsFailed (sink_faults self.old) (sink_faults self.new) result }
         ensures calm { sink_quiet self.old → StaysQuiet (sink_quiet self.new) result }
     {
         self.calls.next(&mut self.faults)?;
@@ -230,7 +228,7 @@ impl MemFiles {
 }
 
 impl Files for MemFiles {
-    ghost use Rattle.outside_io.specs.Causes.{HasCause, CountsFailed, StaysQuiet};
+    ghost use Rattle.outside_io.specs.Causes.{HasCause, StaysQuiet};
     ghost use Rattle.outside_io.specs.Content.{IsHeld, ReadsFrom, Told, file_of, IsEmptied, MayBeEmptied, GrowsBy, GrowsByPrefix, KeepsOthers};
     ghost use Rattle.outside_io.specs.Calls.{IsToFail, OneMore};
     ghost use Rattle.outside_io.specs.Memory.{files_held, files_calls, files_read_faults, files_write_faults, files_quiet};
@@ -253,7 +251,6 @@ impl Files for MemFiles {
         ensures never_starved { IsErrOf result NoMemory → ⊥ }
         ensures fails { IsErrOf result Failed ↔ (IsToFail (files_calls self.old) ⊎ IsNone (files_held self.old name.now)) }
         ensures calls { OneMore (files_calls self.old) (files_calls self.new) }
-        ensures count { CountsFailed (files_read_faults self.old) (files_read_faults self.new) result }
         ensures calm { files_quiet self.old → IsHeld (Some (files_held self.old)) name.now → StaysQuiet (files_quiet self.new) result }
         ensures other_count { files_write_faults self.new ≡ files_write_faults self.old }
     {
@@ -275,7 +272,6 @@ impl Files for MemFiles {
         ensures fails { IsErrOf result Failed ↔ (IsToFail (files_calls self.old) ⊎ IsNone (files_held self.old name.now)) }
         ensures fills { IfOk result (λ n. n ≡ min (length buf.new) (length (drop at (file_of (files_held self.old) name.now)))) }
         ensures calls { OneMore (files_calls self.old) (files_calls self.new) }
-        ensures count { CountsFailed (files_read_faults self.old) (files_read_faults self.new) result }
         ensures calm { files_quiet self.old → IsHeld (Some (files_held self.old)) name.now → StaysQuiet (files_quiet self.new) result }
         ensures other_count { files_write_faults self.new ≡ files_write_faults self.old }
     {
@@ -297,7 +293,6 @@ impl Files for MemFiles {
         ensures fails { IsErrOf result Failed ↔ IsToFail (files_calls self.old) }
         ensures nothing { OnErr result ((other : List ℕ) → files_held self.new other ≡ files_held self.old other) }
         ensures calls { OneMore (files_calls self.old) (files_calls self.new) }
-        ensures count { CountsFailed (files_write_faults self.old) (files_write_faults self.new) result }
         ensures calm { files_quiet self.old → StaysQuiet (files_quiet self.new) result }
     {
         self.calls.next(&mut self.write_faults)?;
@@ -315,7 +310,6 @@ impl Files for MemFiles {
         ensures fails { IsErrOf result Failed ↔ (IsToFail (files_calls self.old) ⊎ IsNone (files_held self.old name.now)) }
         ensures nothing { OnErr result ((other : List ℕ) → files_held self.new other ≡ files_held self.old other) }
         ensures calls { OneMore (files_calls self.old) (files_calls self.new) }
-        ensures count { CountsFailed (files_write_faults self.old) (files_write_faults self.new) result }
         ensures calm { files_quiet self.old → IsHeld (Some (files_held self.old)) name.now → StaysQuiet (files_quiet self.new) result }
     {
         self.calls.next(&mut self.write_faults)?;

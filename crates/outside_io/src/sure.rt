@@ -1,4 +1,4 @@
-//! A source, a sink and files in memory that never fail.
+//! A source, a sink and files in memory, whose only error is want of memory.
 
 ghost use Rattle.std.specs.Prelude.{◌≡◌, ◌≢◌, ◌≤◌, ◌-◌, ◌^◌, ℕ, List, [], ◌++◌, min, length, take, drop, vec_len, Option, None, Some, IfOk, IfSome, OnOk, OnErr, IsErrOf, ⊤};
 ghost use Rattle.std.proofs.Math.Nat.{zero-lt-suc};
@@ -11,7 +11,7 @@ use crate::{Files, OutFault, Sink, Source};
 use std::alloc::Global;
 use std::collections::BTreeMap;
 
-/// A source of bytes in memory that never fails.
+/// A source of bytes in memory. Its reads never fail; giving it bytes may want memory.
 #[derive(Drop)]
 pub struct SureSource {
     bytes: Vec<u8>,
@@ -19,14 +19,14 @@ pub struct SureSource {
     ghost within: { at ≤ vec_len bytes },
 }
 
-/// A sink that keeps its bytes in memory and never fails.
+/// A sink that keeps its bytes in memory. The only error that it answers is want of memory.
 #[derive(Drop)]
 pub struct SureSink {
     bytes: Vec<u8>,
 }
 
-/// Files in memory that never fail. A name that is not held reads as an empty file, and an append makes
-/// it.
+/// Files in memory. The only error that they answer is want of memory. A name that is not held reads as an
+/// empty file, and an append makes it.
 #[derive(Drop)]
 pub struct SureFiles {
     alloc: Global,
