@@ -2,3 +2,4 @@ pub mod Numbers
 pub mod Places
 pub mod Pairs
 pub mod Commands
+pub mod Found

@@ -2,3 +2,4 @@ pub mod Job
 pub mod CommandLine
 pub mod Seen
 pub mod Places
+pub mod Laws

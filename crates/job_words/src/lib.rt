@@ -13,6 +13,6 @@ mod values;
 mod walk;
 
 pub use jobs::{Begin, Job, Logs, Work};
-pub use laws::{judges_no_turns, saves_at_the_end};
+pub use laws::{finds_given, judges_no_turns, saves_at_the_end};
 pub use rows::named_job;
 pub use values::MOST_TURNS;
