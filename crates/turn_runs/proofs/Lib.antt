@@ -1,4 +1,5 @@
 pub mod Feeds
+pub mod InputCuts
 pub mod Lines
 pub mod OneTurn
 pub mod Passing

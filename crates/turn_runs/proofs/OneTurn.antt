@@ -40,7 +40,7 @@ unfolding read
 append_unread None lines from = refl
 append_unread (Some name) lines from = refl
 
-shown_unread : (logs : Logs) (t : Turned) (from : ℕ) → read (send_acts t.console ++ log_acts logs t.events) from ≡ from
+pub shown_unread : (logs : Logs) (t : Turned) (from : ℕ) → read (send_acts t.console ++ log_acts logs t.events) from ≡ from
 shown_unread logs t from =
     read_joined (send_acts t.console) (log_acts logs t.events) from
     ∙ append_unread logs.trace _ _ ∙ send_unread t.console from

@@ -5,13 +5,14 @@ use Rattle.hart_turns.specs.Machine.{MachineState}
 use Rattle.hart_turns.specs.Turn.{Turned}
 use Rattle.outside_acts.specs.declared.Stop.{Stop}
 use Rattle.outside_acts.specs.declared.Stop.TheVariants.{Input, Out, Files, NoMemory}
-use Rattle.outside_acts.specs.Acts.{Act, ReadTo, Send, Append, read}
+use Rattle.outside_acts.specs.Acts.{Act, ReadTo, Send, Append, IsCut, read}
 use Rattle.job_words.specs.Job.{Logs}
 use Rattle.turn_runs.specs.Run.{run, send_acts, trace_lines, turn_on}
 
 -- ---- a part of a turn
 
--- the input was read to some place before the byte that is offered, and not back
+-- the input failed before the byte that is offered: no more bytes were read in all than had been taken, and no fewer
+-- than before the turn
 abbrev pub LeavesUnread : ℕ → MachineState → List Act → Type 0
 LeavesUnread from m left = (j : ℕ) × (from ≤ j) × (j < m.taken + 1) × (left ≡ ReadTo j ∷ [])
 
@@ -49,3 +50,20 @@ pub record RunLeaves (stop : Stop) (logs : Logs) (bytes : List ℕ) (from : ℕ)
   pub front_is : front ≡ (run logs bytes m k).acts ++ left
   pub of_turn : TurnLeaves stop logs (read (run logs bytes m k).acts from)
       (run logs bytes m k).machine (turn_on bytes (run logs bytes m k).machine) left
+
+-- ---- a run whose input failed
+
+-- k whole turns were made, none of which ended the run, and the bytes that were read in all are exactly those that were
+-- taken. After fewer turns fewer were taken: k is the least number of turns after which so many were, and so it is told
+-- by how far the input was read
+pub record InputLeaves (logs : Logs) (bytes : List ℕ) (m : MachineState) (turns : ℕ) (front : List Act) : Type 0 where
+  pub k : ℕ
+  pub within : k < turns
+  pub goes : (run logs bytes m k).last ≡ Goes
+  pub front_is : front ≡ (run logs bytes m k).acts ++ ReadTo (run logs bytes m k).machine.taken ∷ []
+  pub least : (j : ℕ) → j < k → (run logs bytes m j).machine.taken < (run logs bytes m k).machine.taken
+
+-- so does an input leave a run when it fails, where no fewer bytes were read before the run than its machine had taken
+abbrev pub InputCutsAreLeast : Type 0
+InputCutsAreLeast = (logs : Logs) (bytes : List ℕ) (from : ℕ) (m : MachineState) (turns : ℕ) (front : List Act) →
+    m.taken ≤ from → IsCut Input from (run logs bytes m turns).acts front → InputLeaves logs bytes m turns front

@@ -24,7 +24,8 @@ pub record Reached (bytes : List ℕ) (from : ℕ) (acts : List Act) (m now : Ma
   pub fed : IsFedFrom bytes now.taken (read acts from) feed after.left
   pub did : Did bytes from acts before after
 
--- a turn was made, for which the input was read. What is logged of its events is at hand
+-- a turn was made, for which the input was read. What is logged of the events at hand is what is logged of the
+-- turn's events
 pub record IsTurned (logs : Logs) (bytes : List ℕ) (from : ℕ) (m : MachineState) (view : MachineView) (end : TurnEnd)
     (feed : Feed) (before after : World) : Type 0 where
   pub end_is : end ≡ (turn_on bytes m).end
