@@ -1,24 +1,50 @@
 -- What is never refused: the program's own files, seeds, and streams of allowed records.
-use Rattle.std.proofs.Common.{◌≡◌, ℕ, List, [], IsSome, Option, Some, Result, refl, sym, ap, subst, ◌∙◌}
+use Rattle.std.proofs.Common.{◌≡◌, ℕ, List, [], IfSome, IsSome, Option, None, Some, Result, Ok, Err, refl, sym, ap, subst, ◌∙◌}
+use Rattle.outside_io.specs.Content.{Held}
+use Rattle.outside_acts.specs.Acts.{filed}
 use Rattle.cosim_check.proofs.Allowed.{allowed_pass}
 use Rattle.cosim_check.specs.declared.verdict.Verdict.{Verdict}
 use Rattle.hart_turns.specs.declared.machine.TurnEnd.{TurnEnd}
-use Rattle.hart_turns.specs.declared.machine.TurnEnd.TheVariants.{Goes}
+use Rattle.hart_turns.specs.declared.machine.TurnEnd.TheVariants.{Goes, Ended, BadHost}
 use Rattle.hart_turns.specs.Machine.{MachineState, cleared}
 use Rattle.sim_config.specs.declared.values.Shape.{Shape}
-use Rattle.checkpoint_run.specs.Saving.{ComesTo, SaveRan, Saved}
-use Rattle.job_words.specs.Job.{Judge}
+use Rattle.checkpoint_run.specs.Saving.{ComesTo, IsSound, SaveRan, Saved, unsaved}
+use Rattle.job_words.specs.Job.{FromCheckpoint, Judge, Save}
 use Rattle.seed_start.specs.Seed.{start_of_seed}
 use Rattle.stream_judge.specs.Judging.{IsPassing, most_records}
 use Rattle.turn_runs.proofs.Windowless.{windowless_runs_go_on}
 use Rattle.turn_runs.specs.Run.{Ran, no_logs, run}
 use Rattle.dromajo.specs.declared.status.Status.{Status}
 use Rattle.dromajo.specs.declared.status.Status.TheVariants.{Done}
-use Rattle.dromajo.specs.Jobs.{Begun, IsBegunOutcome, Outcome, after_acts, end_status, judged_outcome, machine_of, refusal_in, save_status}
-use Rattle.dromajo.specs.Laws.{AllowedStreamsPass, OwnFilesAccepted, SeedsAreDone}
+use Rattle.dromajo.specs.Jobs.{Begun, IsBegunOutcome, Outcome, after_acts, begun, end_status, judged_outcome, machine_of, refusal_in, refused, save_status}
+use Rattle.dromajo.specs.Laws.{AllowedStreamsAreDone, OwnFilesAccepted, SeedsAreDone}
+use Rattle.dromajo.proofs.Restored.{save_restores}
+
+-- ---- the files of a save
+
+-- a run that ended saves nothing
+none_saved : (ran : SaveRan) (first : Ran) → ran ≡ unsaved first → IsSome ran.saved → ⊥
+none_saved ran first is saved = let none : IsSome (unsaved first).saved = subst (λ (r : SaveRan). IsSome r.saved) is saved in cc
+
+-- the machine was saved only where none of the turns before ended the run
+goes_where_saved : (name input : List ℕ) (first : Ran) (more : ℕ) (last : TurnEnd) (ran : SaveRan) → ComesTo name input first more last ran → IsSome ran.saved → last ≡ Goes
+goes_where_saved name input first more Goes ran is saved = refl
+goes_where_saved name input first more (Ended code) ran is saved = absurd (none_saved ran first is saved)
+goes_where_saved name input first more (BadHost word) ran is saved = absurd (none_saved ran first is saved)
+
+accepted_after : (turns : ℕ) (name : List ℕ) (more : ℕ) (input : List ℕ) (held : Held) (outcome : Outcome) (r : Result Begun Status) → IsBegunOutcome (Save turns name more) input r outcome
+    → IsSome outcome.saved → IfSome outcome.saved IsSound → refusal_in (begun (filed outcome.acts held) (FromCheckpoint name)) ≡ None
+accepted_after turns name more input held outcome (Err status) is saved sound =
+    absurd (let some : IsSome (refused status).saved = subst (λ (o : Outcome). IsSome o.saved) is saved in cc)
+accepted_after turns name more input held outcome (Ok b) is saved sound =
+    let first = run no_logs input b.machine turns in
+    let work = is.1 in
+    let some : IsSome work.0.saved = subst (λ (o : Outcome). IsSome o.saved) (is.2 ∙ ap (after_acts b.acts) work.2) saved in
+    let goes = goes_where_saved name input first more first.last work.0 work.1 some in
+    ap refusal_in (save_restores turns name more b input outcome held (filed outcome.acts held) is sound refl goes)
 
 pub own_files_accepted : OwnFilesAccepted
-own_files_accepted held name m work begins = ap refusal_in begins
+own_files_accepted held begin turns name more input outcome work is saved sound = accepted_after turns name more input held outcome (begun held begin) is saved sound
 
 -- ---- seeds
 
@@ -50,8 +76,8 @@ seeds_are_done = record {
 
 -- ---- streams
 
-pub allowed_streams_pass : AllowedStreamsPass
-allowed_streams_pass held begin b input past outcome begins passes few is =
+pub allowed_streams_are_done : AllowedStreamsAreDone
+allowed_streams_are_done held begin b input past outcome begins passes few is =
     let verdict = allowed_pass b.machine.core b.machine.shape.tohost most_records input past few passes in
     let of = subst (λ (r : Result Begun Status). IsBegunOutcome Judge input r outcome) begins is in
     let whole = of.2 ∙ ap (after_acts b.acts) (of.1.2 ∙ ap (λ (v : Verdict). judged_outcome v of.1.0) verdict) in

@@ -16,7 +16,7 @@ use Rattle.dromajo.specs.declared.status.Which.TheVariants.{Files, Input, Out, R
 use Rattle.dromajo.specs.Classes.{Class, Refused, Ended, Failed, Unreported, Starved, Never, IsBefore, IsFinished, IsRefusal, IsSettled, IsUsage, before_by, caused, class_of, fails, finishes, settles}
 use Rattle.dromajo.specs.Jobs.{Begun, IsActs, IsBegunActs, begun}
 use Rattle.dromajo.proofs.Works.{some_work}
-use Rattle.dromajo.specs.TopCall.{AnswersRefusal, DidOutcome, HasCause, HasJobCause, JobEnds, JobLeaves, JobStops, Leaves, Reporting, SendsFront, SentFront, cause_by, leaves_by}
+use Rattle.dromajo.specs.TopCall.{AnswersRefusal, DidOutcome, HasJobCause, HasStatusCause, JobEnds, JobLeaves, JobStops, Leaves, Reporting, SendsFront, SentFront, cause_by, leaves_by}
 
 -- ---- the one status of a class
 
@@ -197,7 +197,7 @@ cause_by_class Unreported before answered job a b report report' is same cause r
 cause_by_class Starved before answered job a b report report' is same cause rose = tt
 cause_by_class Never before answered job a b report report' is same cause rose = subst (λ (s : Status). HasJobCause s job a b) same cause
 
-pub answered_cause : (before answered : Status) (job : Option Job) (a b : World) (report report' : Reporting) → IsBefore before answered → HasJobCause before job a b → (answered ≡ WriteFault Report → Rose report.faults report'.faults) → HasCause answered job a b report report'
+pub answered_cause : (before answered : Status) (job : Option Job) (a b : World) (report report' : Reporting) → IsBefore before answered → HasJobCause before job a b → (answered ≡ WriteFault Report → Rose report.faults report'.faults) → HasStatusCause answered job a b report report'
 answered_cause before answered job a b report report' same cause rose = cause_by_class (class_of answered) before answered job a b report report' refl same cause rose
 
 usage_by_class : (class : Class) (answered : Status) → class ≡ class_of answered → before_by class Usage answered → IsUsage answered

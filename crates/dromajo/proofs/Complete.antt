@@ -17,7 +17,7 @@ use Rattle.dromajo.specs.declared.status.Status.TheVariants.{Done, GuestEnded, B
 use Rattle.dromajo.specs.Classes.{Class, Refused, Ended, Failed, Unreported, Starved, Never, IsFinished, before_by, caused, class_of, finishes}
 use Rattle.dromajo.specs.Complete.{EndsBegun, EndsJob, EndsJudging, EndsSave, EndsTurns, EndsWork, MayAnswer}
 use Rattle.dromajo.specs.Jobs.{Begun, IsBegunOutcome, IsOutcome, IsWorkOutcome, Outcome, begun, end_status, job_uses, save_status, verdict_status}
-use Rattle.dromajo.specs.TopCall.{HasCause, Leaves, NoneRose, Reporting, cause_by}
+use Rattle.dromajo.specs.TopCall.{HasStatusCause, Leaves, NoneRose, Reporting, cause_by}
 use Rattle.dromajo.proofs.Answered.{is_starved}
 
 -- ---- how works end
@@ -93,5 +93,5 @@ may_by Never job answered a b report report' is none cause left =
     absurd (subst (λ (class : Class). caused class (job_uses job) a.counts b.counts) (sym is) cause.count)
 
 -- what is answered, from the status before the report
-pub answered_may : (job : Option Job) (answered : Status) (a b : World) (report report' : Reporting) → HasCause answered job a b report report' → (IsFinished answered → Leaves job answered a b) → NoneRose a b report report' → MayAnswer job a answered
+pub answered_may : (job : Option Job) (answered : Status) (a b : World) (report report' : Reporting) → HasStatusCause answered job a b report report' → (IsFinished answered → Leaves job answered a b) → NoneRose a b report report' → MayAnswer job a answered
 answered_may job answered a b report report' cause left none = may_by (class_of answered) job answered a b report report' refl none cause left

@@ -13,7 +13,7 @@ use Rattle.dromajo.specs.declared.status.Status.{Status}
 use Rattle.dromajo.specs.declared.status.Status.TheVariants.{Usage}
 use Rattle.dromajo.specs.declared.status.Tally.{Tally}
 use Rattle.dromajo.specs.declared.status.Tally.TheVariants.{Turned}
-use Rattle.dromajo.specs.declared.work.Finished.{Finished}
+use Rattle.dromajo.specs.declared.work.JobEnding.{JobEnding}
 use Rattle.dromajo.specs.Classes.{Class, Refused, Ended, Failed, Unreported, Starved, Never, class_of, settles, stop_status}
 use Rattle.dromajo.specs.Jobs.{Begun, IsBegunActs, IsBegunOutcome, IsOutcome, Outcome, begun, refused}
 use Rattle.dromajo.specs.Report.{report_line}
@@ -57,7 +57,7 @@ leaves_stopped stop.NoMemory job held input line a b stops = inr stops
 begun_outcome : (job : Job) (held : Held) (input : List ℕ) (b : Begun) (outcome : Outcome) → begun held job.begin ≡ Ok b → IsBegunOutcome job.work input (Ok b) outcome → IsOutcome (Some job) held input outcome
 begun_outcome job held input b outcome is work = subst (λ (r : Result Begun Status). IsBegunOutcome job.work input r outcome) (sym is) work
 
-job_ends : (job : Job) (held : Held) (input : List ℕ) (b : Begun) (last : Finished) (x z : World) → begun held job.begin ≡ Ok b
+job_ends : (job : Job) (held : Held) (input : List ℕ) (b : Begun) (last : JobEnding) (x z : World) → begun held job.begin ≡ Ok b
     → BegunEnds job.work b last input x z → JobEnds (Some job) held input last.status (report_line last.status last.tally) x z
 job_ends job held input b last x z is ends = record {
   outcome = ends.outcome;
@@ -161,7 +161,7 @@ unbegun_job job status s tally reads reads' a b is unmade told left written unbe
     (unbegun_leaves job held input status a.held reads reads' a b h unbegun (did_nothing input a b l (held_same a.held b.held held h told) left written)))
 
 -- its work ended: `x` and `z` are the worlds between which it was done
-pub ended_job : (job : Job) (m : MachineView) (finished : Finished) (a x z b : World)
+pub ended_job : (job : Job) (m : MachineView) (finished : JobEnding) (a x z b : World)
     → IfSome a.held (λ files. begun files job.begin ≡ Ok (begun_with m))
     → Told a.held x.held (λ h h'. h' ≡ h) → x.left ≡ a.left → x.written ≡ a.written → z.held ≡ b.held → z.left ≡ b.left → z.written ≡ b.written
     → class_of finished.status ≡ Ended → OverLeft x (λ input. BegunEnds job.work (begun_with m) finished input x z)

@@ -1,12 +1,11 @@
 -- A machine that was loaded goes on as the machine that was saved, without its reservations, goes on.
-use Rattle.std.proofs.Common.{◌≡◌, ℕ, zero, suc, List, [], ◌∷◌, ◌++◌, Option, Some, None, Result, Ok, refl, sym, ap, subst, ◌∙◌}
-use Rattle.outside_io.specs.Content.{Held}
+use Rattle.std.proofs.Common.{◌≡◌, ℕ, zero, suc, List, [], ◌++◌, Option, Some, None, Result, sym, ap, subst, ◌∙◌}
 use Rattle.outside_acts.specs.Acts.{Act, ReadTo, Start, sent}
 use Rattle.outside_acts.proofs.Algebra.{sent_joined, sent_none, sent_one}
 use Rattle.hart_turns.specs.Machine.{MachineState, cleared}
 use Rattle.job_words.specs.Job.{Logs, Turns}
 use Rattle.turn_runs.specs.Feeding.{pass_acts}
-use Rattle.turn_runs.specs.Run.{Ran, no_logs, run}
+use Rattle.turn_runs.specs.Run.{no_logs, run}
 use Rattle.checkpoint_run.proofs.Logs.{logs_change_nothing}
 use Rattle.dromajo.specs.declared.status.Status.{Status}
 use Rattle.dromajo.specs.declared.status.Tally.TheVariants.{Turned}

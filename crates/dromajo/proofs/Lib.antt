@@ -10,3 +10,4 @@ pub mod Passed
 pub mod Accepted
 pub mod Complete
 pub mod BegunFit
+pub mod Cut

@@ -1,5 +1,5 @@
 -- What a job saved is restored: the checkpoint in the files that it leaves begins as the machine that was saved.
-use Rattle.std.proofs.Common.{◌≡◌, ℕ, List, [], ◌∷◌, ◌++◌, Option, Some, None, Result, Ok, Err, IfSome, refl, sym, ap, subst, ◌∙◌}
+use Rattle.std.proofs.Common.{◌≡◌, ℕ, List, [], ◌++◌, Option, Some, None, Result, Ok, IfSome, refl, sym, ap, subst, ◌∙◌}
 use Rattle.outside_io.specs.Content.{Held, Told}
 use Rattle.outside_acts.specs.Acts.{Act, filed}
 use Rattle.outside_acts.specs.World.{World}
@@ -19,7 +19,7 @@ use Rattle.checkpoint_run.specs.Saving.{ComesTo, IsRomOf, IsSound, SaveRan, Save
 use Rattle.checkpoint_run.proofs.Apart.{apart_keeps, run_apart}
 use Rattle.checkpoint_run.proofs.Restored.{saved_is_restored}
 use Rattle.dromajo.specs.declared.status.Status.{Status}
-use Rattle.dromajo.specs.Jobs.{Begun, IsBegunOutcome, IsOutcome, Outcome, after_acts, begun, begun_by_boot, restored, save_outcome}
+use Rattle.dromajo.specs.Jobs.{Begun, IsBegunOutcome, IsOutcome, Outcome, after_acts, begun_by_boot, restored, save_outcome}
 use Rattle.dromajo.specs.TopCall.{BeginsAs, DidOutcome, JobRestores, Leaves, RestoresSaved, WorkRestores}
 
 -- turns that log nothing write no file
@@ -65,7 +65,7 @@ filed_saved begin first save input m more held =
     ∙ filed_joined save second (filed first (filed begin held))
     ∙ unlogged input m more (filed save (filed first (filed begin held)))
 
-save_restores : (turns : ℕ) (name : List ℕ) (more : ℕ) (b : Begun) (input : List ℕ) (outcome : Outcome) (held files : Held) → IsBegunOutcome (Save turns name more) input (Ok b) outcome
+pub save_restores : (turns : ℕ) (name : List ℕ) (more : ℕ) (b : Begun) (input : List ℕ) (outcome : Outcome) (held files : Held) → IsBegunOutcome (Save turns name more) input (Ok b) outcome
     → IfSome outcome.saved IsSound → files ≡ filed outcome.acts held → WorkRestores (Save turns name more) b.machine input files
 save_restores turns name more b input outcome held files is sound files_are = λ goes.
     let first = run no_logs input b.machine turns in

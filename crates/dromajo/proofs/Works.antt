@@ -1,8 +1,8 @@
 -- What a work comes to: turns that are logged, a save, the judging of a stream, each behind the acts of its beginning.
-use Rattle.std.proofs.Common.{◌≡◌, ℕ, Bool, true, false, List, [], ◌∷◌, ◌++◌, drop, inl, inr, Option, Some, None, is_some, if◌then◌else◌, refl, sym, ap, subst, ◌∙◌}
+use Rattle.std.proofs.Common.{◌≡◌, ℕ, Bool, List, [], ◌∷◌, ◌++◌, drop, inl, inr, Option, Some, None, is_some, if◌then◌else◌, refl, sym, ap, subst, ◌∙◌}
 use Rattle.checkpoint_run.specs.Reaching.{IsSaveRun, StopsAnywhere}
 use Rattle.checkpoint_run.specs.Saving.{Saved}
-use Rattle.cosim_check.specs.Laws.{number}
+use Rattle.cosim_check.specs.Verdicts.{number}
 use Rattle.cosim_check.specs.declared.verdict.Verdict.{Verdict}
 use Rattle.hart_step.specs.Harts.{CoreState}
 use Rattle.hart_turns.specs.declared.machine.TurnEnd.{TurnEnd}
@@ -24,7 +24,7 @@ use Rattle.stream_judge.proofs.Taking.{none_passed}
 use Rattle.dromajo.specs.declared.status.Status.{Status}
 use Rattle.dromajo.specs.declared.status.Tally.{Tally}
 use Rattle.dromajo.specs.declared.status.Tally.TheVariants.{Turned, Judged}
-use Rattle.dromajo.specs.declared.work.Finished.{Finished}
+use Rattle.dromajo.specs.declared.work.JobEnding.{JobEnding}
 use Rattle.dromajo.specs.Jobs.{IsWorkActs, after_acts, end_status, judged_outcome, ran_outcome, save_outcome, save_status, start_acts, start_named, unsaved_status, verdict_status}
 use Rattle.dromajo.specs.Report.{report_line}
 use Rattle.dromajo.specs.Works.{BegunEnds, BegunStops, IsUnused, WorkEnds, WorkStops, begun_with}
@@ -144,7 +144,7 @@ save_stopped why name input from turns more m a b (inr (stops, sound)) = record 
 
 -- ---- the acts of a beginning before those of the work
 
-pub begun_ends : (work : Work) (m : MachineView) (finished : Finished) (feed : Feed) (input : List ℕ) (a b c : World)
+pub begun_ends : (work : Work) (m : MachineView) (finished : JobEnding) (feed : Feed) (input : List ℕ) (a b c : World)
     → HasResumed input m.console m.machine.taken feed a b → OverInput m.machine feed b (λ bytes from. WorkEnds work m.machine finished bytes from b c)
     → BegunEnds work (begun_with m) finished input a c
 begun_ends work m finished feed input a b c resumed ends =
@@ -197,7 +197,7 @@ judged_outcome_of : (m : MachineView) (input : List ℕ) (count : ℕ) → IsUnu
     ≡ judged_outcome (stream_verdict m.machine.core m.machine.shape.tohost input) count
 judged_outcome_of m input count unused = ap (λ (acts : List Act). after_acts acts (judged_outcome (stream_verdict m.machine.core m.machine.shape.tohost input) count)) (unused_acts m unused)
 
-pub judging_ends : (m : MachineView) (core : CoreState) (shape : Shape) (verdict : Verdict) (finished : Finished) (input : List ℕ) (a b : World) → core ≡ m.machine.core → shape ≡ m.machine.shape
+pub judging_ends : (m : MachineView) (core : CoreState) (shape : Shape) (verdict : Verdict) (finished : JobEnding) (input : List ℕ) (a b : World) → core ≡ m.machine.core → shape ≡ m.machine.shape
     → IsUnused m → IsJudged core shape.tohost input verdict a b → finished.status ≡ verdict_status verdict → finished.tally ≡ Judged (number verdict)
     → BegunEnds Judge (begun_with m) finished input a b
 judging_ends m core shape verdict finished input a b core_is shape_is unused is status_is tally_is =

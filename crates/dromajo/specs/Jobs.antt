@@ -1,16 +1,14 @@
 -- What each job does: where its machine begins, and the acts of its work; its status, and its report.
-use Rattle.std.specs.Prelude.{◌≡◌, ◌≢◌, ◌⊎◌, ℕ, ◌==◌, List, [], ◌∷◌, ◌++◌, Option, Some, None, IfSome, IsSome, Result, Ok, Err, if◌then◌else◌, ⊤}
+use Rattle.std.specs.Prelude.{◌≡◌, ◌⊎◌, ℕ, ◌==◌, List, [], ◌∷◌, ◌++◌, Option, Some, None, IfSome, IsSome, Result, Ok, Err, if◌then◌else◌, ⊤}
 use Rattle.outside_io.specs.Content.{Held, IsHeld}
 use Rattle.outside_acts.specs.Acts.{Act, ReadTo, Start}
 use Rattle.outside_acts.specs.Calls.{Only}
 use Rattle.outside_acts.specs.World.{Counted, Reading, TheInput}
 use Rattle.checkpoint_run.specs.Reaching.{save_uses}
 use Rattle.checkpoint_run.specs.Saving.{IsSaveRan, IsSound, SaveRan, Saved}
-use Rattle.cosim_check.specs.Laws.{number}
+use Rattle.cosim_check.specs.Verdicts.{number}
 use Rattle.cosim_check.specs.declared.verdict.Verdict.{Verdict}
 use Rattle.cosim_check.specs.declared.verdict.Verdict.TheVariants as verdict
-use Rattle.sim_config.specs.declared.fault.ConfigFault.{ConfigFault}
-use Rattle.sim_config.specs.declared.fault.ConfigFault.TheVariants as config_fault
 use Rattle.hart_turns.specs.declared.machine.TurnEnd.{TurnEnd}
 use Rattle.hart_turns.specs.declared.machine.TurnEnd.TheVariants as turn_end
 use Rattle.hart_turns.specs.declared.booting.BootFault.{BootFault}
@@ -19,19 +17,18 @@ use Rattle.hart_turns.specs.Machine.{MachineState, reset_machine}
 use Rattle.image_saver.specs.declared.fault.LoadFault.{LoadFault}
 use Rattle.image_saver.specs.Checkpoint.{Checkpoint, checkpoint_of, debug_of}
 use Rattle.image_saver.specs.Quiet.{HoldsCheckpoint}
-use Rattle.image_saver.specs.Refusal.{IsOfFiles}
 use Rattle.machine_start.specs.declared.start.Start.{Start as StartValue}
 use Rattle.machine_start.specs.declared.fault.StartFault.{StartFault}
 use Rattle.machine_start.specs.Quiet.{HoldsConfig}
 use Rattle.machine_start.specs.Start.{start_of_config, start_from_image}
 use Rattle.seed_start.specs.Seed.{start_of_seed}
 use Rattle.job_words.specs.Job.{Begin, FromCheckpoint, FromConfig, FromImage, FromSeed, Job, Judge, Logs, Save, Turns, Work}
-use Rattle.stream_judge.specs.Judging.{HasPassed, IsReadTo, stream_verdict}
+use Rattle.stream_judge.specs.Judging.{IsReadTo, PassesSoFar, stream_verdict}
 use Rattle.turn_runs.specs.Reaching.{log_uses}
 use Rattle.turn_runs.specs.Resuming.{resume_acts}
 use Rattle.turn_runs.specs.Run.{Ran, no_logs, run}
 use Rattle.dromajo.specs.declared.status.Status.{Status}
-use Rattle.dromajo.specs.declared.status.Status.TheVariants.{Done, Usage, BadConfig, BadCheckpoint, GuestEnded, BadHostWord, Disagree, BadLine, TooMany}
+use Rattle.dromajo.specs.declared.status.Status.TheVariants.{Done, Usage, GuestEnded, BadHostWord, Disagree, BadLine, TooMany}
 use Rattle.dromajo.specs.declared.status.Status.TheVariants as status
 use Rattle.dromajo.specs.declared.status.Tally.{Tally}
 use Rattle.dromajo.specs.declared.status.Tally.TheVariants.{Turned, Judged}
@@ -151,7 +148,8 @@ abbrev pub IsBegunOutcome : Work → List ℕ → Result Begun Status → Outcom
 IsBegunOutcome work input (Err status) outcome = outcome ≡ refused status
 IsBegunOutcome work input (Ok b) outcome = (of_work : Outcome) × IsWorkOutcome work b.machine input of_work × (outcome ≡ after_acts b.acts of_work)
 
--- what the job of the words may come to, over what the files hold and the whole input; none is refused
+-- what the job of the words may come to, over what the files hold and the whole input; words
+-- that name no job are refused
 abbrev pub IsOutcome : Option Job → Held → List ℕ → Outcome → Type 0
 IsOutcome None held input outcome = outcome ≡ refused Usage
 IsOutcome (Some job) held input outcome = IsBegunOutcome job.work input (begun held job.begin) outcome
@@ -165,7 +163,7 @@ IsWorkActs (Turns turns logs) m input acts = acts ≡ (ran_outcome (start_acts l
 IsWorkActs (Save turns name more) m input acts =
     (acts ≡ (run no_logs input m turns).acts)
     ⊎ ((ran : SaveRan) × IsSaveRan name input m turns more ran × IfSome ran.saved IsSound × (acts ≡ ran.acts))
-IsWorkActs Judge m input acts = (count : ℕ) × HasPassed m.core m.shape.tohost input count × (acts ≡ ReadTo count ∷ [])
+IsWorkActs Judge m input acts = (count : ℕ) × PassesSoFar m.core m.shape.tohost input count × (acts ≡ ReadTo count ∷ [])
 
 -- the acts of a beginning come before those of the work; one that is refused has none
 abbrev pub IsBegunActs : Work → List ℕ → Result Begun Status → List Act → Type 0
@@ -216,10 +214,3 @@ begin_uses begin counted = counted ≡ Reading
 abbrev pub job_uses : Option Job → Counted → Type 0
 job_uses None counted = ⊥
 job_uses (Some job) counted = begin_uses job.begin counted ⊎ work_uses job.work counted
-
--- what a status needs beside its class: Usage, that the words name no job, BadConfig, that it carries no want of
--- memory, and BadCheckpoint, that it carries a fault of the files
-pub record Fits (status : Status) (job : Option Job) : Type 0 where
-  pub usage : status ≡ Usage → job ≡ None
-  pub config : (fault : ConfigFault) → status ≡ BadConfig fault → fault ≢ config_fault.NoMemory
-  pub checkpoint : (fault : LoadFault) → status ≡ BadCheckpoint fault → IsOfFiles fault

@@ -34,16 +34,16 @@ object_name Out = codes "out"
 object_name Report = codes "report"
 
 -- a field of an ELF file
-abbrev pub field_name : ElfField → List ℕ
-field_name Class = codes "class"
-field_name Order = codes "order"
-field_name Type2 = codes "type"
-field_name Machine = codes "machine"
-field_name Phentsize = codes "phentsize"
-field_name Entry = codes "entry"
-field_name Shentsize = codes "shentsize"
-field_name Link = codes "link"
-field_name Tohost = codes "tohost"
+abbrev pub elf_field_name : ElfField → List ℕ
+elf_field_name Class = codes "class"
+elf_field_name Order = codes "order"
+elf_field_name Type2 = codes "type"
+elf_field_name Machine = codes "machine"
+elf_field_name Phentsize = codes "phentsize"
+elf_field_name Entry = codes "entry"
+elf_field_name Shentsize = codes "shentsize"
+elf_field_name Link = codes "link"
+elf_field_name Tohost = codes "tohost"
 
 -- a key as it is spelled, and `top` for the value as a whole
 abbrev pub key_name : Key → List ℕ
@@ -74,7 +74,7 @@ config_text fault = codes "config " ++ text_fault fault
 -- why a program is refused
 abbrev pub elf_text : ElfFault → List ℕ
 elf_text NotElf = codes "elf not-elf"
-elf_text (WrongKind field) = codes "elf wrong-kind " ++ field_name field
+elf_text (WrongKind field) = codes "elf wrong-kind " ++ elf_field_name field
 elf_text (Truncated offset) = codes "elf truncated " ++ decimal offset
 elf_text (OutsideRam segment) = codes "elf outside-ram " ++ decimal segment
 elf_text (Shrinks segment) = codes "elf shrinks " ++ decimal segment

@@ -13,14 +13,18 @@ use Rattle.outside_acts.specs.World.{Reading, Writing, TheInput, Console, World,
 use Rattle.checkpoint_run.specs.Saving.{IsSound}
 use Rattle.hart_turns.specs.declared.machine.TurnEnd.TheVariants.{Goes}
 use Rattle.hart_turns.specs.Machine.{MachineState, cleared}
+use Rattle.image_saver.specs.declared.fault.LoadFault.{LoadFault}
+use Rattle.image_saver.specs.Refusal.{IsOfFiles}
 use Rattle.job_words.specs.Job.{FromCheckpoint, Job, Save, Work}
+use Rattle.sim_config.specs.declared.fault.ConfigFault.{ConfigFault}
+use Rattle.sim_config.specs.declared.fault.ConfigFault.TheVariants as config_fault
 use Rattle.turn_runs.specs.Feeding.{pass_acts}
 use Rattle.turn_runs.specs.Run.{no_logs, run}
 use Rattle.dromajo.specs.declared.status.Status.{Status}
-use Rattle.dromajo.specs.declared.status.Status.TheVariants.{NoMemory}
+use Rattle.dromajo.specs.declared.status.Status.TheVariants.{BadCheckpoint, BadConfig, NoMemory, Usage}
 use Rattle.dromajo.specs.declared.status.Tally.{Tally}
 use Rattle.dromajo.specs.Classes.{Class, Refused, Ended, Failed, Unreported, Starved, IsBefore, IsRefusal, caused, class_of}
-use Rattle.dromajo.specs.Jobs.{Begun, Fits, IsActs, IsOutcome, Outcome, begun, job_uses}
+use Rattle.dromajo.specs.Jobs.{Begun, IsActs, IsOutcome, Outcome, begun, job_uses}
 use Rattle.dromajo.specs.Report.{report_line}
 
 -- ---- what is told
@@ -40,8 +44,8 @@ abbrev pub report_of : {E : Type 0} → sink.Ghosts E → E → Reporting
 report_of e report = record { written = e.written report; faults = e.faults report }
 
 -- files, an input and a console that are known to fail at no call
-abbrev pub AreQuiet : {F I O : Type 0} → files.Ghosts F → source.Ghosts I → sink.Ghosts O → F → I → O → Type 0
-AreQuiet f i o files input out = f.quiet files × i.quiet input × o.quiet out
+abbrev pub AreAllQuiet : {F I O : Type 0} → files.Ghosts F → source.Ghosts I → sink.Ghosts O → F → I → O → Type 0
+AreAllQuiet f i o files input out = f.quiet files × i.quiet input × o.quiet out
 
 -- where what the files hold and the input has left is told
 abbrev pub OverTold : World → (Held → List ℕ → Type 0) → Type 0
@@ -59,7 +63,7 @@ pub record Ends (IsOne : Outcome → Type 0) (status : Status) (line input : Lis
   pub sound : IfSome outcome.saved IsSound
 
 -- it was to do acts of these, and they were cut by this stop
-pub record Stops (AreThose : List Act → Type 0) (stop : Stop) (input : List ℕ) (from : ℕ) (before now : World) : Type 0 where
+pub record IsCutAmong (AreThose : List Act → Type 0) (stop : Stop) (input : List ℕ) (from : ℕ) (before now : World) : Type 0 where
   pub acts : List Act
   pub are : AreThose acts
   pub cut : DidCut stop input from acts before now
@@ -68,7 +72,7 @@ abbrev pub JobEnds : Option Job → Held → List ℕ → Status → List ℕ �
 JobEnds job held input status line before now = Ends (IsOutcome job held input) status line input 0 before now
 
 abbrev pub JobStops : Stop → Option Job → Held → List ℕ → World → World → Type 0
-JobStops stop job held input before now = Stops (IsActs job held input) stop input 0 before now
+JobStops stop job held input before now = IsCutAmong (IsActs job held input) stop input 0 before now
 
 -- by the class of its status. Files are read, and the memory of a machine is taken, before anything is done
 abbrev pub leaves_by : Class → Option Job → Held → List ℕ → Status → List ℕ → World → World → Type 0
@@ -143,6 +147,13 @@ AnswersRefusal (Some refusal) status = (status ≡ refusal) × IsRefusal status
 
 -- ---- causes
 
+-- what a status needs beside its class: Usage, that the words name no job, BadConfig, that it carries no want of
+-- memory, and BadCheckpoint, that it carries a fault of the files
+pub record Fits (status : Status) (job : Option Job) : Type 0 where
+  pub usage : status ≡ Usage → job ≡ None
+  pub config : (fault : ConfigFault) → status ≡ BadConfig fault → fault ≢ config_fault.NoMemory
+  pub checkpoint : (fault : LoadFault) → status ≡ BadCheckpoint fault → IsOfFiles fault
+
 -- why a job ended with this status, before its report
 pub record HasJobCause (status : Status) (job : Option Job) (before now : World) : Type 0 where
   pub count : caused (class_of status) (job_uses job) before.counts now.counts
@@ -156,8 +167,8 @@ cause_by Starved status job before now report report' = ⊤
 cause_by class status job before now report report' = HasJobCause status job before now
 
 -- the same, by the status that is answered
-abbrev pub HasCause : Status → Option Job → World → World → Reporting → Reporting → Type 0
-HasCause status job before now report report' = cause_by (class_of status) status job before now report report'
+abbrev pub HasStatusCause : Status → Option Job → World → World → Reporting → Reporting → Type 0
+HasStatusCause status job before now report report' = cause_by (class_of status) status job before now report report'
 
 -- no count of faults rose, that of the report neither
 pub record NoneRose (before now : World) (report report' : Reporting) : Type 0 where

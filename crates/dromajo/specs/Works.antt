@@ -12,11 +12,11 @@ use Rattle.job_words.specs.Job.{Begin, FromCheckpoint, Judge, Save, Turns, Work}
 use Rattle.turn_runs.specs.Resuming.{resume_acts}
 use Rattle.dromajo.specs.declared.status.Status.{Status}
 use Rattle.dromajo.specs.declared.status.Status.TheVariants.{BadCheckpoint, BadConfig, Usage}
-use Rattle.dromajo.specs.declared.work.Finished.{Finished}
+use Rattle.dromajo.specs.declared.work.JobEnding.{JobEnding}
 use Rattle.dromajo.specs.Classes.{Class, Refused, Failed, Starved, IsFault, class_of}
 use Rattle.dromajo.specs.Jobs.{Begun, IsBegunActs, IsBegunOutcome, IsWorkActs, IsWorkOutcome}
 use Rattle.dromajo.specs.Report.{report_line}
-use Rattle.dromajo.specs.TopCall.{Ends, Stops}
+use Rattle.dromajo.specs.TopCall.{Ends, IsCutAmong}
 
 -- a machine that was made, with the acts that come before its work
 abbrev pub begun_with : MachineView → Begun
@@ -46,22 +46,22 @@ pub record BeginsQuietly {T : Type 0} (quiet_now : Type 0) (result : Result T St
   pub still : quiet_now
 
 -- a work ended so
-abbrev pub WorkEnds : Work → MachineState → Finished → List ℕ → ℕ → World → World → Type 0
+abbrev pub WorkEnds : Work → MachineState → JobEnding → List ℕ → ℕ → World → World → Type 0
 WorkEnds work m finished input from before now =
     Ends (IsWorkOutcome work m input) finished.status (report_line finished.status finished.tally) input from before now
 
 -- its acts were cut by this stop
 abbrev pub WorkStops : Stop → Work → MachineState → List ℕ → ℕ → World → World → Type 0
-WorkStops stop work m input from before now = Stops (IsWorkActs work m input) stop input from before now
+WorkStops stop work m input from before now = IsCutAmong (IsWorkActs work m input) stop input from before now
 
 -- the same with the acts of the beginning before those of the work, from the first byte of the input on
-abbrev pub BegunEnds : Work → Begun → Finished → List ℕ → World → World → Type 0
+abbrev pub BegunEnds : Work → Begun → JobEnding → List ℕ → World → World → Type 0
 BegunEnds work b finished input before now =
     Ends (IsBegunOutcome work input (Ok b)) finished.status (report_line finished.status finished.tally) input 0 before now
 
 -- the acts of the beginning and of the work were cut by this stop
 abbrev pub BegunStops : Stop → Work → Begun → List ℕ → World → World → Type 0
-BegunStops stop work b input before now = Stops (IsBegunActs work input (Ok b)) stop input 0 before now
+BegunStops stop work b input before now = IsCutAmong (IsBegunActs work input (Ok b)) stop input 0 before now
 
 -- over an input that is told
 abbrev pub OverLeft : World → (List ℕ → Type 0) → Type 0

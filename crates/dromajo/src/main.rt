@@ -53,8 +53,8 @@ mod work;
 
 pub use job_words::MOST_TURNS;
 pub use laws::{
-    allowed_streams_pass, begun_is_fit, later_equal, own_files_are_accepted, own_trace_passes,
-    seeds_are_done,
+    allowed_streams_are_done, begun_is_fit, later_equal, own_files_are_accepted, own_trace_passes,
+    seeds_are_done, turns_places,
 };
 use outside_io::{DirFiles, StdSink, StdSource};
 pub use status::{Status, Tally, Which};

@@ -8,7 +8,7 @@ use cosim_check::Field;
 use std::alloc::{AllocError, Global};
 
 /// The name of a field of a record.
-fn field_name(field: Field) -> &'static str
+fn record_field_name(field: Field) -> &'static str
     ensures { result.now ≡ record_field_name field }
 {
     match field {
@@ -51,7 +51,7 @@ pub(crate) fn disagree_text(
 ) -> Result<String, AllocError>
     ensures { IfOk result (λ text. string_bytes text ≡ disagree_text n field allowed given) }
 {
-    let name = field_name(field);
+    let name = record_field_name(field);
     let mut text = format!(in alloc; "disagree record={n} field={name} allowed=")?;
     push_value(&mut text, allowed)?;
     text.push_str(" given=")?;

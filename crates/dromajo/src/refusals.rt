@@ -1,7 +1,7 @@
 //! Why a configuration, a program or a checkpoint is refused, as the report has it.
 
 ghost use Rattle.std.specs.Prelude.{◌≡◌, IfOk, string_bytes};
-ghost use Rattle.dromajo.specs.Report.{checkpoint_text, config_text, elf_text, field_name, key_name, part_name, text_fault};
+ghost use Rattle.dromajo.specs.Report.{checkpoint_text, config_text, elf_field_name, elf_text, key_name, part_name, text_fault};
 
 use elf_load::{ElfFault, ElfField};
 use image_saver::{LoadFault, Part};
@@ -9,8 +9,8 @@ use sim_config::{ConfigFault, Key};
 use std::alloc::{AllocError, Global};
 
 /// The name of a field of an ELF file.
-fn field_name(field: ElfField) -> &'static str
-    ensures { result.now ≡ field_name field }
+fn elf_field_name(field: ElfField) -> &'static str
+    ensures { result.now ≡ elf_field_name field }
 {
     match field {
         ElfField::Class => "class",
@@ -32,7 +32,7 @@ pub(crate) fn elf_text(alloc: Global, fault: ElfFault) -> Result<String, AllocEr
     match fault {
         ElfFault::NotElf => String::from_str(alloc, "elf not-elf"),
         ElfFault::WrongKind(field) => {
-            let name = field_name(field);
+            let name = elf_field_name(field);
             format!(in alloc; "elf wrong-kind {name}")
         }
         ElfFault::Truncated(offset) => format!(in alloc; "elf truncated {offset}"),

@@ -9,23 +9,23 @@ ghost use Rattle.dromajo.specs.Classes.{IsBefore, IsFault, IsFinished, IsSettled
 ghost use Rattle.dromajo.specs.Complete.{MayAnswer};
 ghost use Rattle.dromajo.specs.Jobs.{HoldsJob, refusal_of};
 ghost use Rattle.dromajo.specs.Report.{report_line};
-ghost use Rattle.dromajo.specs.TopCall.{AnswersRefusal, AreQuiet, HasCause, HasJobCause, JobLeaves, Leaves, NoneRose, Reported, Reports, RestoresSaved, SendsFront, report_of, told_of};
+ghost use Rattle.dromajo.specs.TopCall.{AnswersRefusal, AreAllQuiet, HasJobCause, HasStatusCause, JobLeaves, Leaves, NoneRose, Reported, Reports, RestoresSaved, SendsFront, report_of, told_of};
 
 use crate::begin::begin;
 use crate::report::report_line;
 use crate::status::{Status, Tally, Which, stop_status};
-use crate::work::{Finished, do_work};
+use crate::work::{JobEnding, do_work};
 use job_words::{Job, named_job};
 use outside_acts::Objects;
 use outside_io::{Files, OutFault, Sink, Source};
 use std::alloc::Global;
 
 /// A job that ended before its work did.
-fn ended_early(status: Status) -> Finished
+fn ended_early(status: Status) -> JobEnding
     ensures status { result.status ≡ status }
     ensures tally { result.tally ≡ Tally.Turned 0 0 }
 {
-    Finished {
+    JobEnding {
         status,
         tally: Tally::Turned { turns: 0, taken: 0 },
     }
@@ -38,7 +38,7 @@ fn do_job<F: Files, I: Source, O: Sink>(
     files: &mut F,
     input: &mut I,
     out: &mut O,
-) -> Finished
+) -> JobEnding
     requires { IsNamed job.now }
     ensures leaves { JobLeaves (Some (job_seen job.now)) result.status (report_line result.status result.tally)
         (told_of F.Files I.Source O.Sink files.old input.old out.old)
@@ -49,7 +49,7 @@ fn do_job<F: Files, I: Source, O: Sink>(
         (told_of F.Files I.Source O.Sink files.old input.old out.old)
         (told_of F.Files I.Source O.Sink files.new input.new out.new) }
     ensures before { IsBefore result.status result.status }
-    ensures calm { AreQuiet F.Files I.Source O.Sink files.old input.old out.old →
+    ensures calm { AreAllQuiet F.Files I.Source O.Sink files.old input.old out.old →
         HoldsJob (F.held files.old) (Some (job_seen job.now)) → IsFault result.status → ⊥ }
 {
     let machine = match begin(alloc, job.begin, files) {
@@ -70,7 +70,7 @@ fn perform<F: Files, I: Source, O: Sink>(
     files: &mut F,
     input: &mut I,
     out: &mut O,
-) -> Finished
+) -> JobEnding
     ensures leaves { JobLeaves (job_of (texts words.now)) result.status (report_line result.status result.tally)
         (told_of F.Files I.Source O.Sink files.old input.old out.old)
         (told_of F.Files I.Source O.Sink files.new input.new out.new) }
@@ -82,7 +82,7 @@ fn perform<F: Files, I: Source, O: Sink>(
     ensures before { IsBefore result.status result.status }
     ensures nothing { job_of (texts words.now) ≡ None →
         (result.status ≡ Status.Usage) × (files.new ≡ files.old) × (input.new ≡ input.old) × (out.new ≡ out.old) }
-    ensures calm { AreQuiet F.Files I.Source O.Sink files.old input.old out.old →
+    ensures calm { AreAllQuiet F.Files I.Source O.Sink files.old input.old out.old →
         HoldsJob (F.held files.old) (job_of (texts words.now)) → IsFault result.status → ⊥ }
 {
     match named_job(words) {
@@ -92,7 +92,7 @@ fn perform<F: Files, I: Source, O: Sink>(
 }
 
 /// Writes the report line, and answers the status after it.
-fn finish<E: Sink>(alloc: Global, finished: Finished, report: &mut E) -> Status
+fn finish<E: Sink>(alloc: Global, finished: JobEnding, report: &mut E) -> Status
     requires { IsBefore finished.status finished.status }
     ensures reports { Reports result finished.status (report_line finished.status finished.tally)
         (report_of E.Sink report.old) (report_of E.Sink report.new) }
@@ -136,8 +136,8 @@ pub fn dromajo<F: Files, I: Source, O: Sink, E: Sink>(
     out: &mut O,
     report: &mut E,
 ) -> Status
-    // Where the outside did not fail, and what it holds is told, the call leaves what an outcome of the job that
-    // the words name says: its status, the console's bytes, the files, and the bytes read.
+    // Where the outside did not fail, memory was found, and what the outside holds is told, the call leaves what an
+    // outcome of the job that the words name says: its status, the console's bytes, the files, and the bytes read.
     ensures result { IsFinished result → Leaves (job_of (texts words.now.items)) result
         (told_of F.Files I.Source O.Sink files.old input.old out.old)
         (told_of F.Files I.Source O.Sink files.new input.new out.new) }
@@ -165,7 +165,7 @@ pub fn dromajo<F: Files, I: Source, O: Sink, E: Sink>(
 
     // Each status has its cause, and beside it no fault is passed over; of the report's failure and of want of memory
     // `reported` says it, by the status before the report.
-    ensures causes { HasCause result (job_of (texts words.now.items))
+    ensures causes { HasStatusCause result (job_of (texts words.now.items))
         (told_of F.Files I.Source O.Sink files.old input.old out.old)
         (told_of F.Files I.Source O.Sink files.new input.new out.new)
         (report_of E.Sink report.old) (report_of E.Sink report.new) }
@@ -176,9 +176,9 @@ pub fn dromajo<F: Files, I: Source, O: Sink, E: Sink>(
 
     // Over objects that fail at no call, where every file that the job reads is held, no fault of reading or writing
     // is answered, and whatever the status no count rose: nothing fails that the job does not ask for.
-    ensures complete { AreQuiet F.Files I.Source O.Sink files.old input.old out.old → E.quiet report.old →
+    ensures complete { AreAllQuiet F.Files I.Source O.Sink files.old input.old out.old → E.quiet report.old →
         HoldsJob (F.held files.old) (job_of (texts words.now.items)) → IsFault result → ⊥ }
-    ensures no_count_rises { AreQuiet F.Files I.Source O.Sink files.old input.old out.old → E.quiet report.old →
+    ensures no_count_rises { AreAllQuiet F.Files I.Source O.Sink files.old input.old out.old → E.quiet report.old →
         HoldsJob (F.held files.old) (job_of (texts words.now.items)) → NoneRose
         (told_of F.Files I.Source O.Sink files.old input.old out.old)
         (told_of F.Files I.Source O.Sink files.new input.new out.new)

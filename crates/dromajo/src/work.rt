@@ -27,7 +27,7 @@ use turns::make_turns;
 
 /// How a job ended, before its report, and what it counted.
 #[derive(Drop)]
-pub(crate) struct Finished {
+pub(crate) struct JobEnding {
     pub(crate) status: Status,
     pub(crate) tally: Tally,
 }
@@ -57,7 +57,7 @@ pub(crate) fn do_work<W: SavesOutside>(
     work: &Work<'_>,
     machine: Machine,
     outside: &mut W,
-) -> Result<Finished, Stop>
+) -> Result<JobEnding, Stop>
     requires few { MakesFewTurns work.now }
     requires well { BeginsWell (work_seen work.now) machine }
     requires running { IsTrue (is_running machine.machine) }

@@ -1,7 +1,7 @@
 //! The judging of a stream.
 
 ghost use Rattle.std.specs.Prelude.{◌≡◌, IfErr, IfOk, IsTrue};
-ghost use Rattle.cosim_check.specs.Laws.{number};
+ghost use Rattle.cosim_check.specs.Verdicts.{number};
 ghost use Rattle.hart_turns.specs.Machine.{is_running};
 ghost use Rattle.job_words.specs.Job.{Judge};
 ghost use Rattle.outside_acts.specs.Calls.{Caused, GoesQuietly, Only};
@@ -11,20 +11,20 @@ ghost use Rattle.dromajo.specs.Jobs.{verdict_status};
 ghost use Rattle.dromajo.specs.Works.{BegunEnds, BegunStops, IsUnused, OverLeft, begun_with};
 
 use crate::status::{Status, Tally};
-use crate::work::Finished;
+use crate::work::JobEnding;
 use cosim_check::Verdict;
 use hart_turns::Machine;
 use outside_acts::{Outside, Stop};
 use stream_judge::judge_input;
 
 /// How a stream ended on which this is the verdict.
-fn judged(verdict: Verdict) -> Finished
+fn judged(verdict: Verdict) -> JobEnding
     ensures status { result.status ≡ verdict_status verdict }
     ensures tally { result.tally ≡ Tally.Judged (number verdict) }
     ensures class { class_of result.status ≡ Ended }
 {
     match verdict {
-        Verdict::Passing(n) => Finished {
+        Verdict::Passing(n) => JobEnding {
             status: Status::Done,
             tally: Tally::Judged(n),
         },
@@ -33,7 +33,7 @@ fn judged(verdict: Verdict) -> Finished
             field,
             allowed,
             given,
-        } => Finished {
+        } => JobEnding {
             status: Status::Disagree {
                 n,
                 field,
@@ -42,11 +42,11 @@ fn judged(verdict: Verdict) -> Finished
             },
             tally: Tally::Judged(n),
         },
-        Verdict::BadLine { n, column } => Finished {
+        Verdict::BadLine { n, column } => JobEnding {
             status: Status::BadLine { n, column },
             tally: Tally::Judged(n),
         },
-        Verdict::TooMany(most) => Finished {
+        Verdict::TooMany(most) => JobEnding {
             status: Status::TooMany(most),
             tally: Tally::Judged(most),
         },
@@ -54,7 +54,7 @@ fn judged(verdict: Verdict) -> Finished
 }
 
 /// Judges the input as the commit stream of another core, from this machine on.
-pub(crate) fn judge_stream<W: Outside>(machine: Machine, outside: &mut W) -> Result<Finished, Stop>
+pub(crate) fn judge_stream<W: Outside>(machine: Machine, outside: &mut W) -> Result<JobEnding, Stop>
     requires unused { IsUnused machine }
     requires running { IsTrue (is_running machine.machine) }
     ensures done { IfOk result (λ finished. OverLeft (W.world outside.old) (λ input.

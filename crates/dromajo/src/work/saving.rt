@@ -11,7 +11,7 @@ ghost use Rattle.dromajo.specs.Works.{BegunEnds, BegunStops, IsUnused, OverLeft,
 
 use crate::status::{Status, Tally};
 use crate::work::turns::status_at;
-use crate::work::{Finished, take_up};
+use crate::work::{JobEnding, take_up};
 use checkpoint_run::{SaveRan, SavesOutside, save_run};
 use hart_turns::{Machine, TurnEnd};
 use outside_acts::Stop;
@@ -50,7 +50,7 @@ pub(crate) fn save_turns<W: SavesOutside>(
     name: &str,
     more: u64,
     outside: &mut W,
-) -> Result<Finished, Stop>
+) -> Result<JobEnding, Stop>
     requires unused { IsUnused machine }
     requires running { IsTrue (is_running machine.machine) }
     requires most { turns ≤ 1_000_000_000 }
@@ -73,7 +73,7 @@ pub(crate) fn save_turns<W: SavesOutside>(
         Ok(ran) => ran,
         Err(stop) => return Err(stop),
     };
-    Ok(Finished {
+    Ok(JobEnding {
         status: save_status(&ran),
         tally: Tally::Turned {
             turns: ran.made,

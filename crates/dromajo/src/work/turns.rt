@@ -9,7 +9,7 @@ ghost use Rattle.dromajo.specs.Jobs.{end_status, start_acts};
 ghost use Rattle.dromajo.specs.Works.{BegunEnds, BegunStops, OverLeft, begun_with};
 
 use crate::status::{Status, Tally};
-use crate::work::{Finished, take_up};
+use crate::work::{JobEnding, take_up};
 use hart_turns::{Machine, TurnEnd};
 use job_words::Logs;
 use outside_acts::{Outside, Stop};
@@ -51,7 +51,7 @@ pub(crate) fn make_turns<W: Outside>(
     turns: u64,
     logs: &Logs<'_>,
     outside: &mut W,
-) -> Result<Finished, Stop>
+) -> Result<JobEnding, Stop>
     requires taken { machine.machine.taken ≤ 1_000_000_000_000 }
     requires most { turns ≤ 1_000_000_000 }
     ensures done { IfOk result (λ finished. OverLeft (W.world outside.old) (λ input.
@@ -76,7 +76,7 @@ pub(crate) fn make_turns<W: Outside>(
         Ok(ran) => ran,
         Err(stop) => return Err(stop),
     };
-    Ok(Finished {
+    Ok(JobEnding {
         status: status_at(ran.end, ran.made),
         tally: Tally::Turned {
             turns: ran.made,
