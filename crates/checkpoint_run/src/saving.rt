@@ -24,7 +24,8 @@ pub trait SavesOutside: Outside {
     ///
     /// # Errors
     ///
-    /// `Files` where a write failed, and `NoMemory`. A front of the acts was done then.
+    /// `Files` where a write failed, and `NoMemory`. The acts before one of them were done
+    /// then, and perhaps a part of that one.
     fn save(&mut self, alloc: Global, machine: &Machine, rom: &[u8], name: &str) -> Result<(), Stop>
         requires room { length rom.now ≤ most_rom }
         ensures done { OnOk result

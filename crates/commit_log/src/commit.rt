@@ -1,4 +1,4 @@
-// A commit record: what an instruction wrote, stored and was told, up to the end of the line.
+//! A commit record: what an instruction wrote, stored and was told, up to the end of the line.
 
 ghost use Rattle.std.specs.Prelude.{◌≡◌};
 ghost use Rattle.commit_log.specs.Reading.{answer_of, answer_or_later, commit_of, nothing, register_of, register_or_later, store_of, store_or_later, unless_end, volatile_of};

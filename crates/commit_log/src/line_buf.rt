@@ -1,4 +1,4 @@
-// The buffer of one line, and the parts of lines that are written into it.
+//! The buffer of one line, and the parts of lines that are written into it.
 
 ghost use Rattle.std.specs.Prelude.{◌≡◌, ◌+◌, ◌*◌, ◌<◌, ◌≤◌, ◌∷◌, ◌++◌, [], length, nat_lt, if◌then◌else◌};
 ghost use Rattle.commit_log.specs.Spelling.{hex_digit, number, word};

@@ -1,4 +1,4 @@
-// The two hexadecimal digits of a byte.
+//! The two hexadecimal digits of a byte.
 
 ghost use Rattle.std.specs.Prelude.{◌≡◌, ◌+◌, ◌*◌, ◌/◌, ◌%◌, ◌<◌, ◌≤◌, ◌∷◌, ◌++◌, [], length, take};
 ghost use Rattle.commit_log.specs.Spelling.{hex, hex_digit};

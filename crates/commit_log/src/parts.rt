@@ -1,5 +1,5 @@
-// The parts of a line, read from the front of what is left of it. An error is the number of bytes
-// that are left where reading stops.
+//! The parts of a line, read from the front of what is left of it. An error is the number of bytes
+//! that are left where reading stops.
 
 ghost use Rattle.std.specs.Prelude.{◌≡◌, ◌*◌, ◌^◌, ◌<◌, ◌≤◌, IfOk};
 ghost use Rattle.commit_log.specs.Reading.{at_end, digits_of, first_value, Gives, hart_value, hex_value, mode_value, number_of, one, past, place_of, size_value, with_second, word_of};

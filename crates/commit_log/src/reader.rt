@@ -1,4 +1,4 @@
-// The event of a line.
+//! The event of a line.
 
 ghost use Rattle.std.specs.Prelude.{◌≡◌, ◌^◌, ◌<◌, length, IfErr, IfOk};
 ghost use Rattle.hart_step.specs.declared.event.Event.{Event as Record};

@@ -1,5 +1,5 @@
-// Lines that were made outside, each with its event, and lines that stop to be one, with the column
-// that tools/record_columns.py reckons from a list of all shapes of lines.
+//! Lines that were made outside, each with its event, and lines that stop to be one, with the column
+//! that tools/record_columns.py reckons from a list of all shapes of lines.
 
 use crate::{LineBuf, LineFault, one_spelling, read, write};
 use hart_step::{Event, Priv, Put};

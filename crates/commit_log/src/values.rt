@@ -1,4 +1,4 @@
-// A number in hexadecimal digits, read with no choice at a digit.
+//! A number in hexadecimal digits, read with no choice at a digit.
 
 ghost use Rattle.std.specs.Prelude.{◌≡◌, ◌*◌, ◌^◌, ◌<◌, ◌≤◌, drop, length, IfSome, Ok, Some};
 ghost use Rattle.commit_log.specs.Reading.{digits_of, hex_value};
@@ -27,7 +27,7 @@ static VALUES: [u64; 256] = [
     NONE, NONE, NONE, NONE, NONE, NONE, NONE, NONE, NONE,
 ];
 
-/// The value of a digit, and `NONE` for another character.
+/// The value of a digit, which is below `NONE`, and `NONE` for another character.
 #[inline(always)]
 fn value_of(c: u8) -> u64
     ensures value { result < 2 ^ 32 → hex_value c ≡ Some result }
@@ -36,7 +36,7 @@ fn value_of(c: u8) -> u64
     VALUES[usize::from(c)]
 }
 
-/// The number in the first `count` characters, where all are digits; none promises nothing.
+/// The number in the first `count` characters, where all are digits. `None` says nothing of them.
 #[inline(always)]
 fn short_in_front(line: &[u8], count: u8) -> Option<u64>
     requires { (count ≤ 8) × (count ≤ length line.now) }
@@ -50,7 +50,7 @@ fn short_in_front(line: &[u8], count: u8) -> Option<u64>
     if value < NONE { Some(value) } else { None }
 }
 
-/// The number in the first `count` characters, where all are digits; none promises nothing.
+/// The number in the first `count` characters, where all are digits. `None` says nothing of them.
 #[inline(always)]
 pub(crate) fn number_in_front(line: &[u8], count: u8) -> Option<u64>
     requires { (count ≤ 16) × (count ≤ length line.now) }

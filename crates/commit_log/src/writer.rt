@@ -1,4 +1,4 @@
-// The line of an event.
+//! The line of an event.
 
 ghost use Rattle.std.specs.Prelude.{◌≡◌, ◌+◌, ◌<◌, ◌≤◌, ◌++◌, ◌∷◌, length};
 ghost use Rattle.hart_step.specs.Events.{IsEvent, IsStored, IsWritten};

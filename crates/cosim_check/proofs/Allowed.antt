@@ -1,13 +1,13 @@
 -- A stream of allowed records passes.
-use Rattle.std.proofs.Common.{◌≡◌, ℕ, zero, suc, ◌+◌, ◌<◌, ◌==◌, Bool, true, false, ◌&&◌, not, if◌then◌else◌, nat_le, IsTrue, List, [], ◌∷◌, ◌++◌, length, take, refl, sym, ap, subst, arith}
+use Rattle.std.proofs.Common.{◌≡◌, ℕ, zero, suc, ◌<◌, ◌==◌, Bool, true, false, ◌&&◌, not, if◌then◌else◌, nat_le, IsTrue, List, [], ◌∷◌, ◌++◌, length, take, refl, sym, ap, subst, arith}
 use Rattle.std.proofs.lemmas.List.{take_all}
 use Rattle.hart_step.specs.Harts.{CoreState}
 use Rattle.cosim_check.specs.declared.verdict.Verdict.{Verdict}
 use Rattle.cosim_check.specs.declared.verdict.Verdict.TheVariants.{Passing, Disallowed, BadLine, TooMany}
 use Rattle.cosim_check.specs.Lines.{after_lines, is_nil, judged, last_part, rest_lines, whole_lines}
 use Rattle.cosim_check.specs.Records.{core_past}
-use Rattle.cosim_check.specs.Verdicts.{deciding, goes_on, verdict_of}
-use Rattle.cosim_check.specs.Laws.{AllowedPass, IsLongest, Means, Passes, RefusedAt, number}
+use Rattle.cosim_check.specs.Verdicts.{deciding, goes_on, number, verdict_of}
+use Rattle.cosim_check.specs.Laws.{AllowedPass, IsLongest, Means, Passes, RefusedAt}
 use Rattle.cosim_check.proofs.Meanings.{verdict_meant}
 use Rattle.cosim_check.proofs.Prefix.{prefix_greatest}
 

@@ -10,8 +10,8 @@ use Rattle.cosim_check.specs.declared.verdict.Verdict.{Verdict}
 use Rattle.cosim_check.specs.declared.verdict.Verdict.TheVariants.{Passing, Disallowed, BadLine, TooMany}
 use Rattle.cosim_check.specs.declared.record.Fault.{Fault}
 use Rattle.cosim_check.specs.Records.{Allows, core_past, fault_of}
-use Rattle.cosim_check.specs.Verdicts.{Finding, Found, Passed, after_all, after_fault, after_line, after_reading, deciding, goes_on, verdict_by, verdict_of}
-use Rattle.cosim_check.specs.Laws.{Means, RefusedAt, RefusedDiffers, ShowsOther, VerdictMeant, number}
+use Rattle.cosim_check.specs.Verdicts.{Finding, Found, Passed, after_all, after_fault, after_line, after_reading, deciding, goes_on, number, verdict_by, verdict_of}
+use Rattle.cosim_check.specs.Laws.{Means, RefusedAt, RefusedDiffers, ShowsOther, VerdictMeant}
 use Rattle.cosim_check.proofs.Streams.{found_stays}
 use Rattle.cosim_check.proofs.Faults.{Differ, allowed_where, fault_differs}
 

@@ -10,8 +10,8 @@ use Rattle.commit_log.proofs.Columns.{found_lem, only_lem}
 use Rattle.cosim_check.specs.declared.verdict.Verdict.TheVariants.{Passing, Disallowed, BadLine, TooMany}
 use Rattle.cosim_check.specs.declared.record.Fault.{Fault}
 use Rattle.cosim_check.specs.Records.{Allows, core_past, fault_of}
-use Rattle.cosim_check.specs.Verdicts.{Finding, Found, Passed, after_all, after_fault, after_reading, deciding, goes_on, verdict_by, verdict_of}
-use Rattle.cosim_check.specs.Laws.{IsLongest, Passes, PrefixGreatest, number}
+use Rattle.cosim_check.specs.Verdicts.{Finding, Found, Passed, after_all, after_fault, after_reading, deciding, goes_on, number, verdict_by, verdict_of}
+use Rattle.cosim_check.specs.Laws.{IsLongest, Passes, PrefixGreatest}
 use Rattle.cosim_check.proofs.Streams.{found_stays}
 use Rattle.cosim_check.proofs.Faults.{allowed_where, right_where, some_none}
 

@@ -9,7 +9,7 @@ use Rattle.cosim_check.specs.declared.verdict.Verdict.TheVariants.{Passing, Disa
 use Rattle.cosim_check.specs.Fields.{first_difference}
 use Rattle.cosim_check.specs.Lines.{judged}
 use Rattle.cosim_check.specs.Records.{Allows, core_past, fault_of}
-use Rattle.cosim_check.specs.Verdicts.{IsFinal, deciding, goes_on, verdict_of}
+use Rattle.cosim_check.specs.Verdicts.{IsFinal, deciding, goes_on, number, verdict_of}
 
 -- ---- records
 
@@ -35,13 +35,6 @@ pub record IsLongest (core : CoreState) (tohost : ℕ) (lines : List (List ℕ))
   pub past : CoreState
   pub passes : Passes core tohost (take n lines) past
   pub longest : (j : ℕ) (end : CoreState) → j ≤ length lines → Passes core tohost (take j lines) end → j ≤ n
-
--- how many records passed
-abbrev pub number : Verdict → ℕ
-number (Passing n) = n
-number (Disallowed n field allowed given) = n
-number (BadLine n column) = n
-number (TooMany n) = n
 
 -- the number of a verdict is that of the longest prefix of the deciding lines that passes
 abbrev pub PrefixGreatest : Type 0

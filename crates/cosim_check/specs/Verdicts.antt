@@ -58,3 +58,10 @@ IsFinal (Passing n) = ⊥
 IsFinal (Disallowed n field allowed given) = Unit {0}
 IsFinal (BadLine n column) = Unit {0}
 IsFinal (TooMany n) = Unit {0}
+
+-- how many records passed
+abbrev pub number : Verdict → ℕ
+number (Passing n) = n
+number (Disallowed n field allowed given) = n
+number (BadLine n column) = n
+number (TooMany n) = n

@@ -71,7 +71,6 @@ impl Judge {
         ensures stands { (core : CoreState) (bytes : List ℕ) → StandsFor self.old core bytes → StandsFor self.new core (bytes ++ piece.now) }
         ensures tohost { self.new.tohost ≡ self.old.tohost }
         ensures most { self.new.most ≡ self.old.most }
-
         ensures verdict { result ≡ self.new.verdict }
         ensures settled { IsFinal self.old.verdict → self.new ≡ self.old }
         ensures over { IsTrue self.old.finished → self.new ≡ self.old }
@@ -89,9 +88,8 @@ impl Judge {
     /// Ends the stream: a last line that has no newline is judged, and the verdict stays.
     pub fn finish(&mut self) -> Verdict
         ensures answer { (core : CoreState) (bytes : List ℕ) → StandsFor self.old core bytes → result ≡ verdict_of core self.old.tohost self.old.most bytes true }
-
         ensures verdict { result ≡ self.new.verdict }
-        ensures settled { IsFinal self.old.verdict → result ≡ self.old.verdict }
+        ensures stays { IsFinal self.old.verdict → result ≡ self.old.verdict }
         ensures finished { IsTrue self.new.finished }
         ensures over { IsTrue self.old.finished → self.new ≡ self.old }
     {

@@ -156,7 +156,8 @@ step_after None given n h hart memory = instruction_step given n h hart memory
 unfoldable pub hart_step : Given → ℕ → ℕ → Hart → MemoryState → HartAnswer
 hart_step given n h hart memory = step_after given.interrupt given n h hart memory
 
--- the hart, memory, the event that is shown, what was stored and the surroundings are what a step of hart h says
+-- the hart, memory, the event that is shown, what was stored and the surroundings are what a step of hart h says, and
+-- the event is well formed
 pub record StepLeaves {A : Type 0} (after : A → ℕ → List ℕ → Access → A) (old new : A) (h : ℕ) (hart : Hart) (memory : MemoryState) (shows : Event → Type 0) (put : Option Put) (a : HartAnswer) : Type 0 where
   pub hart_is : hart ≡ a.hart
   pub memory_is : memory ≡ a.memory

@@ -5,7 +5,7 @@ use Rattle.board_bus.specs.declared.window.HostSays.{HostSays}
 use Rattle.board_bus.specs.declared.window.HostSays.TheVariants.{Nothing, End, Send, Bad}
 use Rattle.hart_step.specs.declared.event.Event.{Event}
 use Rattle.hart_turns.specs.Kept.{kept}
-use Rattle.hart_turns.specs.Turn.{Progress, after_window, all_steps, begun, hart_steps, looked_after, one_step, window_after}
+use Rattle.hart_turns.specs.Turn.{Progress, after_window, all_steps, hart_steps, looked_after, one_step, turn_start, window_after}
 
 -- a progress with these events
 abbrev with_events : Progress → List Event → Progress
@@ -52,11 +52,11 @@ kept_core false events p = refl
 
 -- the progress of a turn before its steps, after them and after the look at the window
 pub record Looks (keeps : Bool) (harts slice tohost : ℕ) (start before stepped looked : Progress) : Type 0 where
-  pub begun_is : before ≡ begun start
+  pub begun_is : before ≡ turn_start start
   pub steps_are : stepped ≡ kept keeps before.events (all_steps harts slice before)
   pub looked_is : looked ≡ kept keeps stepped.events (after_window tohost (host_says tohost stepped.core.ram) stepped)
 
-stepped_is : (keeps : Bool) (harts slice tohost : ℕ) (start before stepped looked : Progress) → Looks keeps harts slice tohost start before stepped looked → stepped ≡ kept keeps [] (all_steps harts slice (begun start))
+stepped_is : (keeps : Bool) (harts slice tohost : ℕ) (start before stepped looked : Progress) → Looks keeps harts slice tohost start before stepped looked → stepped ≡ kept keeps [] (all_steps harts slice (turn_start start))
 stepped_is keeps harts slice tohost start before stepped looked looks =
     looks.steps_are ∙ ap (λ (q : Progress). kept keeps q.events (all_steps harts slice q)) looks.begun_is
 
@@ -64,12 +64,12 @@ pub says_same : (keeps : Bool) (harts slice tohost : ℕ) (start before stepped 
 says_same keeps harts slice tohost start before stepped looked looks =
     let ran = stepped_is keeps harts slice tohost start before stepped looked looks in
     ap (λ (q : Progress). host_says tohost q.core.ram) ran
-    ∙ ap (λ core. host_says tohost core.ram) (kept_core keeps [] (all_steps harts slice (begun start)))
+    ∙ ap (λ core. host_says tohost core.ram) (kept_core keeps [] (all_steps harts slice (turn_start start)))
 
 pub looked_kept : (keeps : Bool) (harts slice tohost : ℕ) (start before stepped looked : Progress) → Looks keeps harts slice tohost start before stepped looked → looked ≡ kept keeps [] (looked_after harts slice tohost start)
 looked_kept keeps harts slice tohost start before stepped looked looks =
     let says = says_same keeps harts slice tohost start before stepped looked looks in
     kept_on keeps (after_window tohost (window_after harts slice tohost start)) (window_blind tohost (window_after harts slice tohost start))
-    (all_steps harts slice (begun start)) stepped looked []
+    (all_steps harts slice (turn_start start)) stepped looked []
     (stepped_is keeps harts slice tohost start before stepped looked looks)
     (looks.looked_is ∙ ap (λ (s : HostSays). kept keeps stepped.events (after_window tohost s stepped)) says)

@@ -101,7 +101,7 @@ abbrev pub answer_of : Booted → Result ℕ BootFault
 answer_of b = answered b.left.steps b.fault
 
 -- n boot steps, none of them an exception and at most 1,024 of any hart, lead from m to m' and send these bytes: a step
--- is made by the lowest hart in debug mode (`StepsLowest`), and none is left in it (`BootsEnd`)
+-- is made by the lowest hart in debug mode (`LowestSteps`), and none is left in it (`BootsEnd`)
 pub record Boots (m : MachineState) (n : ℕ) (m' : MachineState) (bytes : List ℕ) : Type 0 where
   pub shape : m'.shape ≡ m.shape
   pub taken : m'.taken ≡ m.taken

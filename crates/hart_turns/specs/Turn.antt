@@ -91,18 +91,18 @@ pub record Turned : Type 0 where
   pub end : TurnEnd
 
 -- the beginning of a turn
-abbrev pub begun : Progress → Progress
-begun p = record p { console = []; events = [] }
+abbrev pub turn_start : Progress → Progress
+turn_start p = record p { console = []; events = [] }
 
 abbrev pub begins : MachineState → Progress
 begins m = record { core = m.core; board = m.board; console = []; events = [] }
 
 -- what the window says after the steps of so many harts, and the turn's progress after the look at it
 abbrev pub window_after : ℕ → ℕ → ℕ → Progress → HostSays
-window_after harts slice tohost p = host_says tohost (all_steps harts slice (begun p)).core.ram
+window_after harts slice tohost p = host_says tohost (all_steps harts slice (turn_start p)).core.ram
 
 abbrev pub looked_after : ℕ → ℕ → ℕ → Progress → Progress
-looked_after harts slice tohost p = after_window tohost (window_after harts slice tohost p) (all_steps harts slice (begun p))
+looked_after harts slice tohost p = after_window tohost (window_after harts slice tohost p) (all_steps harts slice (turn_start p))
 
 -- the machine after a turn's steps and the look at the window; where the turn ends there, no input is taken and no
 -- time passes

@@ -127,9 +127,9 @@ impl Keeps for Kept {
 }
 
 /// No event is kept.
-pub(crate) struct Unseen;
+pub(crate) struct Dropped;
 
-impl Keeps for Unseen {
+impl Keeps for Dropped {
     ghost keeps = { false };
 
     #[inline(always)]

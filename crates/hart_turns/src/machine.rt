@@ -11,7 +11,7 @@ ghost use Rattle.hart_turns.specs.Machine.{cleared, debug_machine, is_running, r
 ghost use Rattle.hart_turns.specs.Turn.{taken_after, takes, turned};
 
 use crate::booting::{BootFault, MOST_STEPS};
-use crate::events::{EventList, Keeps, Kept, Unseen};
+use crate::events::{Dropped, EventList, Keeps, Kept};
 use crate::outside::Outside;
 use crate::running::Running;
 use board_bus::Board;
@@ -177,7 +177,7 @@ impl Machine {
         ensures grows { self.old.machine.taken ≤ self.new.machine.taken }
         ensures at_most_one { self.new.machine.taken ≤ self.old.machine.taken + 1 }
     {
-        self.turn_of::<Unseen>(input)
+        self.turn_of::<Dropped>(input)
     }
 
     /// One turn, whose events are kept or not.

@@ -9,14 +9,14 @@ use Rattle.image_saver.specs.declared.fault.LoadFault.{LoadFault}
 use Rattle.image_saver.specs.declared.fault.LoadFault.TheVariants as load_fault
 use Rattle.image_saver.specs.declared.fault.Part.TheVariants.{Mainram, Bootram}
 use Rattle.image_saver.specs.Checkpoint.{checkpoint_of, meta_file, of_length, part_file, with_meta}
-use Rattle.image_saver.specs.Refusal.{IsRefused}
+use Rattle.image_saver.specs.Refusal.{LoadIsRefused}
 
 pub told_three : {C : Type 0} (P Q R S : C → Type 0) (told : Option C) → ((c : C) → P c → Q c → R c → S c) → IfSome told P → IfSome told Q → IfSome told R → IfSome told S
 told_three P Q R S None all p q r = tt
 told_three P Q R S (Some c) all p q r = all c p q r
 
 -- a refusal for one reason is one for what follows from it, also from an earlier count that was the same
-pub refused_on : (fault : LoadFault) (X Y : Type 0) (first before now : ℕ) → before ≡ first → (X → Y) → IsRefused fault X before now → IsRefused fault Y first now
+pub refused_on : (fault : LoadFault) (X Y : Type 0) (first before now : ℕ) → before ≡ first → (X → Y) → LoadIsRefused fault X before now → LoadIsRefused fault Y first now
 refused_on load_fault.Failed X Y first before now same step why = subst (λ (n : ℕ). Rose n now) same why
 refused_on (load_fault.Meta fault) X Y first before now same step why = (why.0, step why.1, why.2 ∙ same)
 refused_on (load_fault.Length part want have) X Y first before now same step why = (step why.0, why.1 ∙ same)

@@ -20,6 +20,6 @@ HoldsCheckpoint None name = ⊥
 HoldsCheckpoint (Some held) name = IsSome (held (meta_file name)) × HoldsParts held name
 
 -- what was done over quiet files ended with no failed read, and they are quiet still
-pub record GoesQuietly {T : Type 0} (quiet_now : Type 0) (result : Result T LoadFault) : Type 0 where
+pub record LoadsQuietly {T : Type 0} (quiet_now : Type 0) (result : Result T LoadFault) : Type 0 where
   pub unfailed : IsErrOf result Failed → ⊥
   pub still : quiet_now

@@ -9,9 +9,9 @@ use Rattle.image_saver.specs.declared.fault.LoadFault.{LoadFault}
 use Rattle.image_saver.specs.declared.fault.LoadFault.TheVariants.{Failed, Meta, Length, NoMemory}
 
 -- the fault of a read
-abbrev pub read_refusal : OutFault → LoadFault
-read_refusal out_fault.Failed = Failed
-read_refusal out_fault.NoMemory = NoMemory
+abbrev pub load_read_refusal : OutFault → LoadFault
+load_read_refusal out_fault.Failed = Failed
+load_read_refusal out_fault.NoMemory = NoMemory
 
 -- the fault of a meta text: want of memory is no fault of the text
 abbrev pub meta_refusal : ConfigFault → LoadFault
@@ -20,11 +20,11 @@ meta_refusal fault = Meta fault
 
 -- why there is no checkpoint: a file is refused, as `defined` says, or memory lacked, and the count of failed reads is
 -- as before; or a read failed
-abbrev pub IsRefused : LoadFault → Type 0 → ℕ → ℕ → Type 0
-IsRefused Failed defined before now = Rose before now
-IsRefused (Meta fault) defined before now = (fault ≢ config_fault.NoMemory) × defined × (now ≡ before)
-IsRefused (Length part want have) defined before now = defined × (now ≡ before)
-IsRefused NoMemory defined before now = now ≡ before
+abbrev pub LoadIsRefused : LoadFault → Type 0 → ℕ → ℕ → Type 0
+LoadIsRefused Failed defined before now = Rose before now
+LoadIsRefused (Meta fault) defined before now = (fault ≢ config_fault.NoMemory) × defined × (now ≡ before)
+LoadIsRefused (Length part want have) defined before now = defined × (now ≡ before)
+LoadIsRefused NoMemory defined before now = now ≡ before
 
 -- it is a fault of the files themselves: of the meta text, which is no want of memory, or of a length
 abbrev pub IsOfFiles : LoadFault → Type 0

@@ -54,9 +54,9 @@ impl From<ConfigFault> for LoadFault {
 
 impl From<OutFault> for LoadFault {
     ghost use Rattle.std.specs.Prelude.{◌≡◌};
-    ghost use Rattle.image_saver.specs.Refusal.{read_refusal};
+    ghost use Rattle.image_saver.specs.Refusal.{load_read_refusal};
 
-    ghost from_gives = { λ read fault. fault ≡ read_refusal read };
+    ghost from_gives = { λ read fault. fault ≡ load_read_refusal read };
 
     fn from(read: OutFault) -> LoadFault {
         match read {

@@ -7,8 +7,8 @@ ghost use Rattle.sim_config.specs.Ranges.{IsMeta};
 ghost use Rattle.sim_config.specs.Reading.{meta_of};
 ghost use Rattle.machine_start.specs.Reading.{OnlyReads};
 ghost use Rattle.image_saver.specs.Checkpoint.{IsCheckpoint, checkpoint_of, meta_file, of_length, part_file, seen, with_meta};
-ghost use Rattle.image_saver.specs.Quiet.{GoesQuietly, HoldsCheckpoint};
-ghost use Rattle.image_saver.specs.Refusal.{IsRefused};
+ghost use Rattle.image_saver.specs.Quiet.{HoldsCheckpoint, LoadsQuietly};
+ghost use Rattle.image_saver.specs.Refusal.{LoadIsRefused};
 
 use crate::fault::{LoadFault, Part};
 use crate::names::{meta_file, part_file};
@@ -33,12 +33,12 @@ pub struct Loaded {
 fn load_meta<F: Files>(alloc: Global, files: &mut F, name: &str) -> Result<Meta, LoadFault>
     ensures meta { IfOk result (λ meta. IfSome (F.held files.old) (λ held.
         meta_of (file_of held (meta_file name.now)) ≡ Ok meta)) }
-    ensures refused { IfErr result (λ fault. IsRefused fault
+    ensures refused { IfErr result (λ fault. LoadIsRefused fault
         (IfSome (F.held files.old) (λ held. with_meta (meta_of (file_of held (meta_file name.now))) ≡ Err fault))
         (F.read_faults files.old) (F.read_faults files.new)) }
     ensures ranges { IfOk result IsMeta }
     ensures leaves { OnlyReads F.held F.read_faults F.write_faults files.old files.new result }
-    ensures calm { F.quiet files.old → IsHeld (F.held files.old) (meta_file name.now) → GoesQuietly (F.quiet files.new) result }
+    ensures calm { F.quiet files.old → IsHeld (F.held files.old) (meta_file name.now) → LoadsQuietly (F.quiet files.new) result }
 {
     let file = meta_file(alloc, name)?;
     match read_file(alloc, files, file.as_str(), LONGEST_TEXT)? {
@@ -50,11 +50,11 @@ fn load_meta<F: Files>(alloc: Global, files: &mut F, name: &str) -> Result<Meta,
 /// Refuses a part whose file has another length than the meta text says.
 fn check_length<F: Files>(files: &mut F, file: &str, part: Part, want: u64) -> Result<(), LoadFault>
     ensures length { OnOk result (IfSome (F.held files.old) (λ held. length (file_of held file.now) ≡ want)) }
-    ensures refused { IfErr result (λ fault. IsRefused fault
+    ensures refused { IfErr result (λ fault. LoadIsRefused fault
         (IfSome (F.held files.old) (λ held. of_length part want (file_of held file.now) ≡ Err fault))
         (F.read_faults files.old) (F.read_faults files.new)) }
     ensures leaves { OnlyReads F.held F.read_faults F.write_faults files.old files.new result }
-    ensures calm { F.quiet files.old → IsHeld (F.held files.old) file.now → GoesQuietly (F.quiet files.new) result }
+    ensures calm { F.quiet files.old → IsHeld (F.held files.old) file.now → LoadsQuietly (F.quiet files.new) result }
 {
     let have = files.size(file)?;
     if have == want {
@@ -73,11 +73,11 @@ fn load_part<F: Files>(
 ) -> Result<(), LoadFault>
     ensures bytes { OnOk result (IfSome (F.held files.old) (λ held.
         buf.new ≡ take (length buf.old) (file_of held file.now))) }
-    ensures refused { IfErr result (λ fault. IsRefused fault
+    ensures refused { IfErr result (λ fault. LoadIsRefused fault
         (IfSome (F.held files.old) (λ held. length (file_of held file.now) ≡ length buf.old → ⊥))
         (F.read_faults files.old) (F.read_faults files.new)) }
     ensures leaves { OnlyReads F.held F.read_faults F.write_faults files.old files.new result }
-    ensures calm { F.quiet files.old → IsHeld (F.held files.old) file.now → GoesQuietly (F.quiet files.new) result }
+    ensures calm { F.quiet files.old → IsHeld (F.held files.old) file.now → LoadsQuietly (F.quiet files.new) result }
 {
     let want = buf.len();
     let have = fill(files, file, buf)?;
@@ -103,13 +103,13 @@ fn load_image<F: Files>(
     requires most { len ≤ most_bytes }
     ensures image { IfOk result (λ ram. IfSome (F.held files.old) (λ held.
         of_length Part.Mainram len (file_of held (part_file Part.Mainram name.now)) ≡ Ok ram)) }
-    ensures refused { IfErr result (λ fault. IsRefused fault
+    ensures refused { IfErr result (λ fault. LoadIsRefused fault
         (IfSome (F.held files.old) (λ held. of_length Part.Mainram len (file_of held (part_file Part.Mainram name.now)) ≡ Err fault))
         (F.read_faults files.old) (F.read_faults files.new)) }
     ensures length { IfOk result (λ ram. length ram ≡ len) }
     ensures leaves { OnlyReads F.held F.read_faults F.write_faults files.old files.new result }
     ensures calm { F.quiet files.old → IsHeld (F.held files.old) (part_file Part.Mainram name.now) →
-        GoesQuietly (F.quiet files.new) result }
+        LoadsQuietly (F.quiet files.new) result }
 {
     let file = part_file(alloc, name, Part::Mainram)?;
     check_length(files, file.as_str(), Part::Mainram, len)?;
@@ -127,13 +127,13 @@ fn load_rom<F: Files>(
 ) -> Result<Vec<u8>, LoadFault>
     ensures rom { IfOk result (λ rom. IfSome (F.held files.old) (λ held.
         of_length Part.Bootram len (file_of held (part_file Part.Bootram name.now)) ≡ Ok rom.items)) }
-    ensures refused { IfErr result (λ fault. IsRefused fault
+    ensures refused { IfErr result (λ fault. LoadIsRefused fault
         (IfSome (F.held files.old) (λ held. of_length Part.Bootram len (file_of held (part_file Part.Bootram name.now)) ≡ Err fault))
         (F.read_faults files.old) (F.read_faults files.new)) }
     ensures length { IfOk result (λ rom. length rom.items ≡ len) }
     ensures leaves { OnlyReads F.held F.read_faults F.write_faults files.old files.new result }
     ensures calm { F.quiet files.old → IsHeld (F.held files.old) (part_file Part.Bootram name.now) →
-        GoesQuietly (F.quiet files.new) result }
+        LoadsQuietly (F.quiet files.new) result }
 {
     let file = part_file(alloc, name, Part::Bootram)?;
     check_length(files, file.as_str(), Part::Bootram, len)?;
@@ -152,13 +152,13 @@ fn load_rom<F: Files>(
 pub fn load<F: Files>(alloc: Global, files: &mut F, name: &str) -> Result<Loaded, LoadFault>
     ensures loaded { IfOk result (λ loaded. IfSome (F.held files.old) (λ held.
         checkpoint_of held name.now ≡ Ok (seen loaded))) }
-    ensures refused { IfErr result (λ fault. IsRefused fault
+    ensures refused { IfErr result (λ fault. LoadIsRefused fault
         (IfSome (F.held files.old) (λ held. checkpoint_of held name.now ≡ Err fault))
         (F.read_faults files.old) (F.read_faults files.new)) }
     ensures fit { IfOk result (λ loaded. IsCheckpoint (seen loaded)) }
     ensures leaves { OnlyReads F.held F.read_faults F.write_faults files.old files.new result }
     ensures calm { F.quiet files.old → HoldsCheckpoint (F.held files.old) name.now →
-        GoesQuietly (F.quiet files.new) result }
+        LoadsQuietly (F.quiet files.new) result }
 {
     let meta = load_meta(alloc, files, name)?;
     let ram = load_image(alloc, files, name, meta.shape.ram)?;

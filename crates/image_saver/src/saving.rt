@@ -88,7 +88,8 @@ fn write_files<F: Files>(
 ///
 /// # Errors
 ///
-/// `Failed` where a write failed, and `NoMemory`. A front of the acts was done then.
+/// `Failed` where a write failed, and `NoMemory`. The acts before one of them were done then, and perhaps a part
+/// of that one.
 pub fn save<F: Files>(
     alloc: Global,
     machine: &Machine,

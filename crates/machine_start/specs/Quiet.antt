@@ -16,6 +16,6 @@ HoldsConfig None name = ⊥
 HoldsConfig (Some held) name = IsSome (held name) × HoldsProgram held name
 
 -- what was done over quiet files ended with no failed read, and they are quiet still
-pub record GoesQuietly {T : Type 0} (quiet_now : Type 0) (result : Result T StartFault) : Type 0 where
+pub record StartsQuietly {T : Type 0} (quiet_now : Type 0) (result : Result T StartFault) : Type 0 where
   pub unfailed : IsErrOf result Unread → ⊥
   pub still : quiet_now

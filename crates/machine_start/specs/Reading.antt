@@ -9,7 +9,7 @@ abbrev pub IsContents : ℕ → List ℕ → Contents → Type 0
 IsContents most file (Bytes bytes) = (bytes.items ≡ file) × (length file ≤ most)
 IsContents most file (TooLong len) = (len ≡ length file) × (most < length file)
 
--- no more bytes than that were read
+-- what is answered of a file: at most so many bytes, or a length that is more
 abbrev pub HasAtMost : ℕ → Contents → Type 0
 HasAtMost most (Bytes bytes) = length bytes.items ≤ most
 HasAtMost most (TooLong len) = most < len

@@ -9,9 +9,9 @@ use Rattle.machine_start.specs.declared.fault.StartFault.{StartFault}
 use Rattle.machine_start.specs.declared.fault.StartFault.TheVariants.{Config, Elf, Unread, NoMemory}
 
 -- the fault of a read
-abbrev pub read_refusal : OutFault → StartFault
-read_refusal out_fault.Failed = Unread
-read_refusal out_fault.NoMemory = NoMemory
+abbrev pub start_read_refusal : OutFault → StartFault
+start_read_refusal out_fault.Failed = Unread
+start_read_refusal out_fault.NoMemory = NoMemory
 
 -- the fault of a text: want of memory is no fault of the configuration
 abbrev pub config_refusal : ConfigFault → StartFault
@@ -20,8 +20,8 @@ config_refusal fault = Config fault
 
 -- why there is no start: a file is refused, as `defined` says, or memory lacked, and the count of failed reads is
 -- as before; or a read failed
-abbrev pub IsRefused : StartFault → Type 0 → ℕ → ℕ → Type 0
-IsRefused (Config fault) defined before now = (fault ≢ config_fault.NoMemory) × defined × (now ≡ before)
-IsRefused (Elf fault) defined before now = defined × (now ≡ before)
-IsRefused Unread defined before now = Rose before now
-IsRefused NoMemory defined before now = now ≡ before
+abbrev pub StartIsRefused : StartFault → Type 0 → ℕ → ℕ → Type 0
+StartIsRefused (Config fault) defined before now = (fault ≢ config_fault.NoMemory) × defined × (now ≡ before)
+StartIsRefused (Elf fault) defined before now = defined × (now ≡ before)
+StartIsRefused Unread defined before now = Rose before now
+StartIsRefused NoMemory defined before now = now ≡ before

@@ -4,9 +4,9 @@ ghost use Rattle.std.specs.Prelude.{◌≡◌, Err, IfErr, IfOk, IfSome, Ok};
 ghost use Rattle.outside_io.specs.Content.{IsHeld, file_of};
 ghost use Rattle.sim_config.specs.Ranges.{IsConfig};
 ghost use Rattle.sim_config.specs.Reading.{config_of};
-ghost use Rattle.machine_start.specs.Quiet.{GoesQuietly, HoldsConfig};
+ghost use Rattle.machine_start.specs.Quiet.{HoldsConfig, StartsQuietly};
 ghost use Rattle.machine_start.specs.Reading.{OnlyReads};
-ghost use Rattle.machine_start.specs.Refusal.{IsRefused};
+ghost use Rattle.machine_start.specs.Refusal.{StartIsRefused};
 ghost use Rattle.machine_start.specs.Start.{IsStart, start_of_config};
 
 use crate::fault::StartFault;
@@ -21,12 +21,12 @@ use std::alloc::Global;
 fn load_config<F: Files>(alloc: Global, files: &mut F, name: &str) -> Result<Config, StartFault>
     ensures config { IfOk result (λ config. IfSome (F.held files.old) (λ held.
         config_of (file_of held name.now) ≡ Ok config)) }
-    ensures refused { IfErr result (λ fault. IsRefused fault
+    ensures refused { IfErr result (λ fault. StartIsRefused fault
         (IfSome (F.held files.old) (λ held. start_of_config held name.now ≡ Err fault))
         (F.read_faults files.old) (F.read_faults files.new)) }
     ensures ranges { IfOk result IsConfig }
     ensures leaves { OnlyReads F.held F.read_faults F.write_faults files.old files.new result }
-    ensures calm { F.quiet files.old → IsHeld (F.held files.old) name.now → GoesQuietly (F.quiet files.new) result }
+    ensures calm { F.quiet files.old → IsHeld (F.held files.old) name.now → StartsQuietly (F.quiet files.new) result }
 {
     match read_file(alloc, files, name, LONGEST_TEXT)? {
         Contents::Bytes(text) => Ok(read_config(alloc, &text)?),
@@ -40,13 +40,13 @@ fn load_config<F: Files>(alloc: Global, files: &mut F, name: &str) -> Result<Con
 pub fn config_start<F: Files>(alloc: Global, files: &mut F, name: &str) -> Result<Start, StartFault>
     ensures start { IfOk result (λ start. IfSome (F.held files.old) (λ held.
         start_of_config held name.now ≡ Ok start)) }
-    ensures refused { IfErr result (λ fault. IsRefused fault
+    ensures refused { IfErr result (λ fault. StartIsRefused fault
         (IfSome (F.held files.old) (λ held. start_of_config held name.now ≡ Err fault))
         (F.read_faults files.old) (F.read_faults files.new)) }
     ensures fit { IfOk result IsStart }
     ensures leaves { OnlyReads F.held F.read_faults F.write_faults files.old files.new result }
     ensures calm { F.quiet files.old → HoldsConfig (F.held files.old) name.now →
-        GoesQuietly (F.quiet files.new) result }
+        StartsQuietly (F.quiet files.new) result }
 {
     let config = load_config(alloc, files, name)?;
     load_program(alloc, files, &config)

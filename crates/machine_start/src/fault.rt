@@ -56,9 +56,9 @@ impl From<ConfigFault> for StartFault {
 
 impl From<OutFault> for StartFault {
     ghost use Rattle.std.specs.Prelude.{◌≡◌};
-    ghost use Rattle.machine_start.specs.Refusal.{read_refusal};
+    ghost use Rattle.machine_start.specs.Refusal.{start_read_refusal};
 
-    ghost from_gives = { λ read fault. fault ≡ read_refusal read };
+    ghost from_gives = { λ read fault. fault ≡ start_read_refusal read };
 
     fn from(read: OutFault) -> StartFault {
         match read {

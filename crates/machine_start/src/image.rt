@@ -2,9 +2,9 @@
 
 ghost use Rattle.std.specs.Prelude.{◌≡◌, ◌≤◌, Err, IfErr, IfOk, IfSome, Ok, length};
 ghost use Rattle.outside_io.specs.Content.{IsHeld};
-ghost use Rattle.machine_start.specs.Quiet.{GoesQuietly};
+ghost use Rattle.machine_start.specs.Quiet.{StartsQuietly};
 ghost use Rattle.machine_start.specs.Reading.{OnlyReads};
-ghost use Rattle.machine_start.specs.Refusal.{IsRefused};
+ghost use Rattle.machine_start.specs.Refusal.{StartIsRefused};
 ghost use Rattle.machine_start.specs.Start.{IsStart, flat_ram, flat_start, start_from_image};
 
 use crate::fault::StartFault;
@@ -44,12 +44,12 @@ fn flat_start(alloc: Global, image: &[u8]) -> Result<Start, AllocError>
 pub fn image_start<F: Files>(alloc: Global, files: &mut F, name: &str) -> Result<Start, StartFault>
     ensures start { IfOk result (λ start. IfSome (F.held files.old) (λ held.
         start_from_image held name.now ≡ Ok start)) }
-    ensures refused { IfErr result (λ fault. IsRefused fault
+    ensures refused { IfErr result (λ fault. StartIsRefused fault
         (IfSome (F.held files.old) (λ held. start_from_image held name.now ≡ Err fault))
         (F.read_faults files.old) (F.read_faults files.new)) }
     ensures fit { IfOk result IsStart }
     ensures leaves { OnlyReads F.held F.read_faults F.write_faults files.old files.new result }
-    ensures calm { F.quiet files.old → IsHeld (F.held files.old) name.now → GoesQuietly (F.quiet files.new) result }
+    ensures calm { F.quiet files.old → IsHeld (F.held files.old) name.now → StartsQuietly (F.quiet files.new) result }
 {
     match read_file(alloc, files, name, FLAT_RAM)? {
         Contents::Bytes(image) => Ok(flat_start(alloc, &image)?),

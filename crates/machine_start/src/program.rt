@@ -4,9 +4,9 @@ ghost use Rattle.std.specs.Prelude.{◌≡◌, ℕ, Err, IfErr, IfOk, IfSome, Is
 ghost use Rattle.outside_io.specs.Content.{IsHeld, file_of};
 ghost use Rattle.sim_config.specs.Ranges.{IsConfig};
 ghost use Rattle.elf_load.specs.Loading.{HasHeader};
-ghost use Rattle.machine_start.specs.Quiet.{GoesQuietly};
+ghost use Rattle.machine_start.specs.Quiet.{StartsQuietly};
 ghost use Rattle.machine_start.specs.Reading.{OnlyReads};
-ghost use Rattle.machine_start.specs.Refusal.{IsRefused};
+ghost use Rattle.machine_start.specs.Refusal.{StartIsRefused};
 ghost use Rattle.machine_start.specs.Start.{IsStart, start_of_program, symbol_window, window_of};
 
 use crate::fault::StartFault;
@@ -49,7 +49,7 @@ fn program_start(alloc: Global, config: &Config, file: &[u8]) -> Result<Start, S
     requires { IsConfig config.now }
     ensures start { IfOk result (λ start. start_of_program config.now file.now ≡ Ok start) }
     ensures refused { IfErr result (λ fault. (count : ℕ) →
-        IsRefused fault (start_of_program config.now file.now ≡ Err fault) count count) }
+        StartIsRefused fault (start_of_program config.now file.now ≡ Err fault) count count) }
     ensures fit { IfOk result IsStart }
     ensures never_unread { IsErrOf result StartFault.Unread → ⊥ }
 {
@@ -77,14 +77,14 @@ pub(crate) fn load_program<F: Files>(
     requires { IsConfig config.now }
     ensures start { IfOk result (λ start. IfSome (F.held files.old) (λ held.
         start_of_program config.now (file_of held config.now.program) ≡ Ok start)) }
-    ensures refused { IfErr result (λ fault. IsRefused fault
+    ensures refused { IfErr result (λ fault. StartIsRefused fault
         (IfSome (F.held files.old) (λ held.
         start_of_program config.now (file_of held config.now.program) ≡ Err fault))
         (F.read_faults files.old) (F.read_faults files.new)) }
     ensures fit { IfOk result IsStart }
     ensures leaves { OnlyReads F.held F.read_faults F.write_faults files.old files.new result }
     ensures calm { F.quiet files.old → IsHeld (F.held files.old) config.now.program →
-        GoesQuietly (F.quiet files.new) result }
+        StartsQuietly (F.quiet files.new) result }
 {
     match read_file(alloc, files, config.program.as_str(), LONGEST_FILE)? {
         Contents::Bytes(file) => program_start(alloc, config, &file),

@@ -1,8 +1,8 @@
 //! All that is outside of a job as one object: files, input and console.
 //!
 //! What a job does to them is a list of acts (specs/Acts.antt): reading so many bytes of the input, sending bytes
-//! to the console, making a file and adding to one. Each call of [`Outside`] says which acts it did, or, where it
-//! stopped, which front of them; so a whole job is said by one list, and what it leaves by how far it came.
+//! to the console, making a file and adding to one. Each call of [`Outside`] that writes says which acts it did, or,
+//! where it stopped, which front of them, and `read` says which bytes it took; so a whole job is said by one list, and what it leaves by how far it came.
 #![tactic(auto)]
 
 ghost use Rattle.std.specs.Prelude.{◌≡◌, ◌∷◌, [], IfErr, IsSome, OnOk};

@@ -4,10 +4,9 @@ use Rattle.std.proofs.lemmas.Bool.{eqb-false}
 use Rattle.hart_step.specs.Harts.{CoreState}
 use Rattle.cosim_check.specs.declared.verdict.Verdict.{Verdict}
 use Rattle.cosim_check.specs.declared.verdict.Verdict.TheVariants.{Passing, Disallowed, BadLine, TooMany}
-use Rattle.cosim_check.specs.Laws.{number}
 use Rattle.cosim_check.specs.Places.{At, Over, Place, next_place, passing, place_by, place_past, places}
 use Rattle.cosim_check.specs.Standing.{JudgeState, StandsFor}
-use Rattle.cosim_check.specs.Verdicts.{Finding, Found, Passed, after_line}
+use Rattle.cosim_check.specs.Verdicts.{Finding, Found, Passed, after_line, number}
 use Rattle.cosim_check.proofs.Streams.{placed, places_join}
 use Rattle.stream_judge.specs.Judging.{IsPassing}
 

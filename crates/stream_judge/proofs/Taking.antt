@@ -17,7 +17,7 @@ use Rattle.outside_acts.specs.Acts.{ReadTo, DidCut}
 use Rattle.outside_acts.specs.Calls.{OnlyRead}
 use Rattle.outside_acts.specs.World.{World}
 use Rattle.outside_acts.proofs.OneAct.{cut_one, did_read}
-use Rattle.stream_judge.specs.Judging.{HasPassed, IsJudged, IsPassing, IsReadTo, JudgingStops, most_records, stream_verdict}
+use Rattle.stream_judge.specs.Judging.{IsJudged, IsPassing, IsReadTo, JudgingStops, PassesSoFar, most_records, stream_verdict}
 
 -- ---- verdicts
 
@@ -254,5 +254,5 @@ none_taken {core} {tohost} {judge} world stands window limit = record {
 }
 
 -- before the first byte all passed
-pub none_passed : (core : CoreState) (tohost : ℕ) (bytes : List ℕ) → HasPassed core tohost bytes 0
+pub none_passed : (core : CoreState) (tohost : ℕ) (bytes : List ℕ) → PassesSoFar core tohost bytes 0
 none_passed core tohost bytes = subst IsPassing (sym (verdict_placed core tohost most_records [] false)) (passes_first tohost most_records core)

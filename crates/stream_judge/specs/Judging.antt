@@ -30,8 +30,8 @@ pub record IsReadTo (core : CoreState) (tohost : ℕ) (bytes : List ℕ) (count 
   pub whole : IsPassing (stream_verdict core tohost bytes) → length bytes < count
 
 -- the bytes before the last of so many pass so far
-abbrev pub HasPassed : CoreState → ℕ → List ℕ → ℕ → Type 0
-HasPassed core tohost bytes count = IsPassing (verdict_of core tohost most_records (take (count - 1) bytes) false)
+abbrev pub PassesSoFar : CoreState → ℕ → List ℕ → ℕ → Type 0
+PassesSoFar core tohost bytes count = IsPassing (verdict_of core tohost most_records (take (count - 1) bytes) false)
 
 -- the whole stream was judged, and so far it was read
 pub record IsJudged (core : CoreState) (tohost : ℕ) (bytes : List ℕ) (verdict : Verdict) (before now : World) : Type 0 where
@@ -43,5 +43,5 @@ pub record IsJudged (core : CoreState) (tohost : ℕ) (bytes : List ℕ) (verdic
 -- its reading was cut by this stop, and all that was read before it passes so far
 pub record JudgingStops (stop : Stop) (core : CoreState) (tohost : ℕ) (bytes : List ℕ) (before now : World) : Type 0 where
   pub count : ℕ
-  pub passed : HasPassed core tohost bytes count
+  pub passed : PassesSoFar core tohost bytes count
   pub cut : DidCut stop bytes 0 (ReadTo count ∷ []) before now

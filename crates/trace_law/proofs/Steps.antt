@@ -15,7 +15,7 @@ use Rattle.hart_turns.specs.Gives.{board_gives}
 use Rattle.hart_turns.specs.Turn.{Progress, hart_steps, one_step}
 use Rattle.hart_turns.proofs.Allowed.{board_is_allowed_lem}
 use Rattle.cosim_check.specs.Records.{Allows, core_past}
-use Rattle.trace_law.specs.Passing.{AllAllowed, Passes, StepsPass}
+use Rattle.trace_law.specs.Passing.{AllAllowed, PartPasses, StepsPass}
 
 pub joins : (tohost : ℕ) (core mid past : CoreState) (xs ys : List Event) → AllAllowed core tohost xs mid → AllAllowed mid tohost ys past → AllAllowed core tohost (xs ++ ys) past
 joins tohost core mid past [] ys one two = subst (λ (c : CoreState). AllAllowed c tohost ys past) one two
@@ -23,10 +23,10 @@ joins tohost core mid past (x ∷ xs) ys one two = (one.0, joins tohost (core_pa
 
 -- ---- places in a turn
 
-pub nothing_passes : (tohost : ℕ) (p : Progress) (other : CoreState) → CoversCore other p.core → Passes tohost other p p
+pub nothing_passes : (tohost : ℕ) (p : Progress) (other : CoreState) → CoversCore other p.core → PartPasses tohost other p p
 nothing_passes tohost p other covers = record { new = []; events = sym (append-nil p.events); past = other; allowed = refl; covers = covers; count = refl }
 
-pub joined : (tohost : ℕ) (other : CoreState) (p q r : Progress) (one : Passes tohost other p q) → Passes tohost one.past q r → Passes tohost other p r
+pub joined : (tohost : ℕ) (other : CoreState) (p q r : Progress) (one : PartPasses tohost other p q) → PartPasses tohost one.past q r → PartPasses tohost other p r
 joined tohost other p q r one two = record {
   new = one.new ++ two.new;
   events = two.events ∙ ap (λ (es : List Event). es ++ two.new) one.events ∙ append_assoc p.events one.new two.new;
@@ -53,7 +53,7 @@ moves tohost other h given hart e within covers ok shows (IsTaken cause is taken
     let here : IsTrue (may_be_taken (hart_of other h).csrs (hart_of other h).mode cause) = subst (λ (x : Hart). IsTrue (may_be_taken x.csrs x.mode cause)) (sym covers.is) may in
     subst (λ (x : Event). Moves tohost other h x) (sym is) (record { allows = (within, here); moved = refl })
 
-one_passes : (tohost h : ℕ) (p : Progress) (other : CoreState) → h < length p.core.harts → CoversCore other p.core → Passes tohost other p (one_step h p)
+one_passes : (tohost h : ℕ) (p : Progress) (other : CoreState) → h < length p.core.harts → CoversCore other p.core → PartPasses tohost other p (one_step h p)
 unfolding one_step
 one_passes tohost h p other within covers =
     let given : Given = board_gives p.board h (hart_of p.core h) in

@@ -17,10 +17,10 @@ use Rattle.board_bus.specs.declared.window.HostSays.TheVariants.{Nothing, End, S
 use Rattle.guest_ram.specs.Bytes.{number_at, with_part}
 use Rattle.byteorder.specs.Endian.{little_bytes}
 use Rattle.cosim_check.specs.Records.{sent_word}
-use Rattle.trace_law.specs.Passing.{AllAllowed, Passes, TurnPasses, TurnsPass}
+use Rattle.trace_law.specs.Passing.{AllAllowed, PartPasses, TurnPasses, TurnsPass}
 use Rattle.trace_law.proofs.Steps.{joined, nothing_passes, steps_pass_lem}
 
-all_pass : (tohost k n : ℕ) (p : Progress) (other : CoreState) → k ≤ length p.core.harts → CoversCore other p.core → Passes tohost other p (all_steps k n p)
+all_pass : (tohost k n : ℕ) (p : Progress) (other : CoreState) → k ≤ length p.core.harts → CoversCore other p.core → PartPasses tohost other p (all_steps k n p)
 unfolding all_steps
 all_pass tohost zero n p other within covers = nothing_passes tohost p other covers
 all_pass tohost (suc k) n p other within covers =
@@ -28,7 +28,7 @@ all_pass tohost (suc k) n p other within covers =
     joined tohost other p (all_steps k n p) (hart_steps k n (all_steps k n p)) one
     (steps_pass_lem tohost k n (all_steps k n p) one.past (let count = one.count in omega arith) one.covers)
 
-window_passes : (tohost : ℕ) (p : Progress) (other : CoreState) → CoversCore other p.core → (says : HostSays) → host_says tohost p.core.ram ≡ says → Passes tohost other p (after_window tohost says p)
+window_passes : (tohost : ℕ) (p : Progress) (other : CoreState) → CoversCore other p.core → (says : HostSays) → host_says tohost p.core.ram ≡ says → PartPasses tohost other p (after_window tohost says p)
 window_passes tohost p other covers Nothing is = nothing_passes tohost p other covers
 window_passes tohost p other covers (End code) is = nothing_passes tohost p other covers
 window_passes tohost p other covers (Bad word) is = nothing_passes tohost p other covers
@@ -50,7 +50,7 @@ closed_core m offered p Goes = refl
 closed_core m offered p (Ended code) = refl
 closed_core m offered p (BadHost word) = refl
 
-turn_by : (m : MachineState) (offered : Option ℕ) (other : CoreState) (q : Progress) (end : TurnEnd) → Passes m.shape.tohost other (begins m) q → TurnPasses m.shape.tohost other m (turned_to m offered q end)
+turn_by : (m : MachineState) (offered : Option ℕ) (other : CoreState) (q : Progress) (end : TurnEnd) → PartPasses m.shape.tohost other (begins m) q → TurnPasses m.shape.tohost other m (turned_to m offered q end)
 turn_by m offered other q end passes = record {
   past = passes.past;
   allowed = subst (λ (es : List Event). AllAllowed other m.shape.tohost es passes.past) (sym passes.events) passes.allowed;

@@ -14,7 +14,7 @@ AllAllowed core tohost [] past = past ≡ core
 AllAllowed core tohost (e ∷ es) past = Allows core tohost e × AllAllowed (core_past core tohost e) tohost es past
 
 -- the events from p to q, two places in a turn, are allowed from this core on, and lead it to one that covers q's
-pub record Passes (tohost : ℕ) (core : CoreState) (p q : Progress) : Type 0 where
+pub record PartPasses (tohost : ℕ) (core : CoreState) (p q : Progress) : Type 0 where
   pub new : List Event
   pub events : q.events ≡ p.events ++ new
   pub past : CoreState
@@ -24,7 +24,7 @@ pub record Passes (tohost : ℕ) (core : CoreState) (p q : Progress) : Type 0 wh
 
 -- the steps of a hart pass, in whatever state the machine is
 abbrev pub StepsPass : Type 0
-StepsPass = (tohost h n : ℕ) (p : Progress) (core : CoreState) → h < length p.core.harts → CoversCore core p.core → Passes tohost core p (hart_steps h n p)
+StepsPass = (tohost h n : ℕ) (p : Progress) (core : CoreState) → h < length p.core.harts → CoversCore core p.core → PartPasses tohost core p (hart_steps h n p)
 
 -- the events of a turn are allowed from this core on, and lead it to one that covers the machine's after the turn
 pub record TurnPasses (tohost : ℕ) (core : CoreState) (before : MachineState) (turn : Turned) : Type 0 where

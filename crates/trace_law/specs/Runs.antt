@@ -1,5 +1,5 @@
 -- The events of a run, what its trace is made of, and that a core which covers the machine's allows them.
-use Rattle.std.specs.Prelude.{◌≡◌, ℕ, zero, suc, ◌≤◌, Some, None, List, [], ◌∷◌, ◌++◌, length}
+use Rattle.std.specs.Prelude.{◌≡◌, ℕ, zero, suc, ◌≤◌, Some, List, [], ◌∷◌, ◌++◌, length}
 use Rattle.hart_step.specs.declared.event.Event.{Event}
 use Rattle.hart_step.specs.Harts.{CoreState}
 use Rattle.hart_step.specs.Told.{CoversCore}

@@ -7,17 +7,17 @@ ghost use Rattle.trace_law.specs.Passing.{StepsPass, TurnsPass};
 ghost use Rattle.trace_law.specs.Runs.{RunsPass, TraceIsEvents};
 ghost use Rattle.trace_law.specs.Traces.{EventsSpelled, TracesPass};
 
-/// The steps of a hart pass.
+/// The events of the steps of a hart are allowed, one after another.
 pub fn steps_pass()
     ensures { StepsPass }
 {}
 
-/// A turn passes.
+/// The events of a turn are allowed, one after another.
 pub fn turns_pass()
     ensures { TurnsPass }
 {}
 
-/// A run passes.
+/// The events of a run are allowed, one after another.
 pub fn runs_pass()
     ensures { RunsPass }
 {}

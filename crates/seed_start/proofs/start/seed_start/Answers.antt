@@ -1,5 +1,5 @@
 -- The program stands at the front of zeros.
-use Rattle.std.proofs.Common.{◌≡◌, ◌≤◌, ℕ, List, length, ap, ◌∙◌, arith}
+use Rattle.std.proofs.Common.{◌≤◌, ℕ, List, length, ap, ◌∙◌, arith}
 use Rattle.guest_ram.specs.Bytes.{base}
 use Rattle.machine_start.specs.declared.start.Start.{Start}
 use Rattle.machine_start.specs.Start.{flat_ram, image_ram}

@@ -1,4 +1,4 @@
-use Rattle.std.proofs.Common.{◌≡◌, ℕ, ◌+◌, ◌/◌, ◌%◌, List, Ok, subst}
+use Rattle.std.proofs.Common.{◌≡◌, ℕ, ◌+◌, ◌/◌, ◌%◌, Ok, subst}
 use Rattle.std.specs.Prelude.{IfSome}
 use Rattle.sv39_walk.specs.Slots.{LeadsTo}
 use Rattle.hart_step.specs.Memory.{MemoryState, physical}
