@@ -11,7 +11,7 @@ use Rattle.image_saver.specs.Saving.{save_acts}
 use Rattle.image_saver.proofs.Jobs.{on_save}
 use Rattle.turn_runs.specs.Leaves.{LeavesLogged, LeavesSent, LeavesUnread, RunLeaves, TurnLeaves}
 use Rattle.turn_runs.specs.Run.{Ran, no_logs, run}
-use Rattle.checkpoint_run.specs.Laws.{AfterIsWhole, MoreEqual, Reads}
+use Rattle.checkpoint_run.specs.Laws.{AfterIsWhole, MoreEqual, RestoresTo}
 use Rattle.checkpoint_run.specs.Saving.{SaveRan}
 use Rattle.checkpoint_run.proofs.Apart.{AllApart, apart_joined, apart_keeps, run_apart}
 use Rattle.checkpoint_run.proofs.Places.{has_saved}
@@ -57,7 +57,7 @@ after_is_whole stop name bytes from m turns more saved front held sound after =
     λ i. λ file. apart_keeps file after.left whole (left_apart file bytes (cleared saved.machine) after.left after.leaves) i in
     let is : filed front held ≡ filed save before =
     ap (λ (zs : List Act). filed zs held) after.front_is ∙ filed_joined (first ++ save) after.left held ∙ kept ∙ filed_joined first save held in
-    subst (λ (h : Held). Reads h name (cleared saved.machine)) (sym is)
+    subst (λ (h : Held). RestoresTo h name (cleared saved.machine)) (sym is)
     (saved_is_restored before name saved.machine saved.rom sound.fit sound.few sound.rom)
 
 -- ---- what the turns after a save send

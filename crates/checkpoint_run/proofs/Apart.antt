@@ -9,7 +9,10 @@ use Rattle.outside_io.specs.Content.{Held, file_of}
 use Rattle.outside_acts.specs.declared.Stop.{Stop}
 use Rattle.outside_acts.specs.Acts.{Act, ReadTo, Send, Start, Append, IsCut, IsPart, filed, filed_by, read}
 use Rattle.outside_acts.proofs.Held.{with_file_others}
+use Rattle.image_saver.specs.declared.fault.Part.TheVariants.{Mainram, Bootram}
+use Rattle.image_saver.specs.Checkpoint.{meta_file, part_file}
 use Rattle.turn_runs.specs.Run.{Ran, goes_on, no_logs, run, send_acts, turn_acts, turn_on}
+use Rattle.checkpoint_run.specs.Leaves.{NotTouched}
 
 -- an act is not on this file
 abbrev pub IsApart : List ℕ → Act → Type 0
@@ -48,6 +51,14 @@ pub apart_keeps : (name : List ℕ) (acts : List Act) (held : Held) → AllApart
 unfolding filed
 apart_keeps name [] held all = refl
 apart_keeps name (act ∷ acts) held all = apart_keeps name acts (filed_by act held) all.1 ∙ apart_by name act held all.0
+
+-- acts apart from every file leave the three of a checkpoint
+pub not_touched : (name : List ℕ) (acts : List Act) (held : Held) → ((file : List ℕ) → AllApart file acts) → NotTouched name held (filed acts held)
+not_touched name acts held apart = record {
+  meta = apart_keeps (meta_file name) acts held (apart (meta_file name));
+  mainram = apart_keeps (part_file Mainram name) acts held (apart (part_file Mainram name));
+  bootram = apart_keeps (part_file Bootram name) acts held (apart (part_file Bootram name));
+}
 
 -- ---- cuts
 

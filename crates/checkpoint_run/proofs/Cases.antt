@@ -17,7 +17,7 @@ use Rattle.turn_runs.proofs.Leaving.{CutOfTwo, cut_of_two, later, one_cut, soone
 use Rattle.checkpoint_run.specs.Laws.{SaveCases}
 use Rattle.checkpoint_run.specs.Leaves.{HasParts, NotTouched, SaveLeaves}
 use Rattle.checkpoint_run.specs.Saving.{Saved}
-use Rattle.checkpoint_run.proofs.Apart.{AllApart, apart_keeps, cut_apart, run_apart}
+use Rattle.checkpoint_run.proofs.Apart.{AllApart, apart_keeps, cut_apart, not_touched, run_apart}
 use Rattle.checkpoint_run.proofs.Places.{cut_of_between, has_saved}
 
 -- ---- three files of different names
@@ -100,14 +100,6 @@ leaves_of name saved before mid now none (same is) =
 leaves_of name saved before mid now none (emptied is) = inr (inl is)
 leaves_of name saved before mid now none (parted size files) =
     inr (inr (record { size = size; meta = files.meta_is; mainram = files.ram_is; bootram = files.rom_is }))
-
--- acts apart from all three leave them
-not_touched : (name : List ℕ) (acts : List Act) (held : Held) → ((file : List ℕ) → AllApart file acts) → NotTouched name held (filed acts held)
-not_touched name acts held apart = record {
-  meta = apart_keeps (meta_file name) acts held (apart (meta_file name));
-  mainram = apart_keeps (part_file Mainram name) acts held (apart (part_file Mainram name));
-  bootram = apart_keeps (part_file Bootram name) acts held (apart (part_file Bootram name));
-}
 
 -- a checkpoint that was written whole, and then acts apart from it
 whole_left : (name : List ℕ) (saved : Saved) (held : Held) (acts : List Act) → ((file : List ℕ) → AllApart file acts)

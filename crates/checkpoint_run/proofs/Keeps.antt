@@ -1,13 +1,17 @@
--- What a run on bytes keeps, and that so each run which goes on has a boot ROM.
-use Rattle.std.proofs.Common.{◌≡◌, ℕ, zero, suc, ◌<◌, List, [], ◌++◌, Option, IfSome, refl, sym, subst, inl, inr}
-use Rattle.std.specs.Prelude.{slice_get}
-use Rattle.std.proofs.lemmas.List.{append-nil}
+-- What a run on bytes and the loss of reservations keep, and that so each run which goes on has a boot ROM.
+use Rattle.std.proofs.Common.{◌≡◌, ℕ, zero, suc, ◌+◌, ◌<◌, List, [], ◌∷◌, ◌++◌, length, map, not, if◌then◌else◌, Option, Some, None, IfSome, refl, sym, ap, subst, ◌∙◌, inl, inr}
+use Rattle.std.specs.Prelude.{IsTrue, is_none, nat_lt, slice_get}
+use Rattle.std.specs.List.{position_or_len}
+use Rattle.std.proofs.lemmas.List.{append-nil, length-map}
 use Rattle.std.proofs.lemmas.List.Elements.{All-get_or}
 use Rattle.std.proofs.lemmas.Option.{slice_get_cases}
+use Rattle.hart_step.specs.declared.hart.Hart.{Hart}
 use Rattle.hart_step.specs.Fit.{AreBytes}
+use Rattle.hart_step.specs.Harts.{is_in_debug, lowest_in_debug}
+use Rattle.hart_step.specs.Step.{unreserved, unreserved_hart}
 use Rattle.hart_turns.specs.declared.machine.TurnEnd.{TurnEnd}
 use Rattle.hart_turns.specs.declared.machine.TurnEnd.TheVariants.{Goes, Ended, BadHost}
-use Rattle.hart_turns.specs.Machine.{MachineState, cleared}
+use Rattle.hart_turns.specs.Machine.{MachineState, cleared, is_running}
 use Rattle.hart_turns.proofs.Fits.{turns_stay_fit_lem, turns_stay_running_lem}
 use Rattle.rom_gen.proofs.Promised.{roms_restore_lem}
 use Rattle.outside_acts.specs.declared.Stop.{Stop}
@@ -23,6 +27,26 @@ use Rattle.checkpoint_run.specs.Laws.{EarlyCutsAreCuts, IsGoing, RunsKeep}
 use Rattle.checkpoint_run.specs.Reaching.{SaveWasCut}
 use Rattle.checkpoint_run.specs.Saving.{ComesTo, IsRomOf, SaveRan, saved_between, unsaved}
 use Rattle.checkpoint_run.proofs.Joins.{save_unbegun}
+
+-- ---- without reservations
+
+-- the first hart in debug mode stands where it stood
+first_in_debug : (harts : List Hart) → position_or_len is_in_debug (map unreserved_hart harts) ≡ position_or_len is_in_debug harts
+first_in_debug [] = refl
+first_in_debug (x ∷ xs) = ap (λ (n : ℕ). if not (is_in_debug x) then 1 + n else 0) (first_in_debug xs)
+
+-- a machine without its reservations runs as it did
+pub runs_cleared : (m : MachineState) {now : MachineState} → now ≡ cleared m → IsTrue (is_running m) → IsTrue (is_running now)
+runs_cleared m is runs =
+    let harts = m.core.harts in
+    let first = first_in_debug harts in
+    let many = length-map harts unreserved_hart in
+    let same : lowest_in_debug (unreserved m.core) ≡ lowest_in_debug m.core =
+    ap (λ (n : ℕ). if nat_lt n (length (map unreserved_hart harts)) then Some n else None) first
+    ∙ ap (λ (n : ℕ). if nat_lt (position_or_len is_in_debug harts) n then Some (position_or_len is_in_debug harts) else None) many in
+    subst (λ (x : MachineState). IsTrue (is_running x)) (sym is) (subst (λ (h : Option ℕ). IsTrue (is_none h)) (sym same) runs)
+
+-- ---- bytes
 
 -- the byte that a turn is offered
 offered_byte : (input : List ℕ) (i : ℕ) → AreBytes input → IfSome (slice_get input i) (λ b. b < 256)

@@ -12,8 +12,9 @@ use Rattle.image_saver.specs.Saving.{save_acts}
 use Rattle.turn_runs.specs.Run.{Ran, no_logs, run}
 use Rattle.turn_runs.proofs.Leaving.{CutOfTwo, cut_in_turn, cut_of_two, later, sooner}
 use Rattle.checkpoint_run.specs.Laws.{SavePlaces, UnsavedPlaces}
-use Rattle.checkpoint_run.specs.Leaves.{SavePlace}
+use Rattle.checkpoint_run.specs.Leaves.{InTurns, SavePlace}
 use Rattle.checkpoint_run.specs.Saving.{ComesTo, SaveRan, Saved, saved_between, unsaved}
+use Rattle.checkpoint_run.proofs.Apart.{cut_apart, not_touched, run_apart}
 
 -- ---- what a run came to, by whether it saved
 
@@ -91,6 +92,14 @@ save_stop_is stop from name m rom front cut =
 
 -- ---- the places
 
+-- in the turns before the save
+in_turns : (stop : Stop) (bytes : List ℕ) (from : ℕ) (name : List ℕ) (m : MachineState) (turns : ℕ) (front : List Act)
+    → IsCut stop from (run no_logs bytes m turns).acts front → InTurns stop bytes from name m turns front
+in_turns stop bytes from name m turns front cut = record {
+  leaves = cut_in_turn stop no_logs bytes from m turns front cut;
+  files = λ held. not_touched name front held (λ file. cut_apart file (run_apart file bytes m turns) cut);
+}
+
 module _ (stop : Stop) (bytes : List ℕ) (from : ℕ) (name : List ℕ) (m : MachineState) (turns more : ℕ) (saved : Saved) (front : List Act) where
   -- after the turns before the save
   place_on : (saved.machine ≡ (run no_logs bytes m turns).machine) → (left : List Act) → front ≡ (run no_logs bytes m turns).acts ++ left
@@ -117,7 +126,7 @@ module _ (stop : Stop) (bytes : List ℕ) (from : ℕ) (name : List ℕ) (m : Ma
       → CutOfTwo stop from (run no_logs bytes m turns).acts
       (save_acts name saved.machine saved.rom ++ (run no_logs bytes (cleared (run no_logs bytes m turns).machine) more).acts) front
       → SavePlace stop bytes from name m turns more saved front
-  place_of machine (sooner cut) = inl (cut_in_turn stop no_logs bytes from m turns front cut)
+  place_of machine (sooner cut) = inl (in_turns stop bytes from name m turns front cut)
   place_of machine (later left is cut) =
       place_on machine left is (cut_of_two (save_acts name saved.machine saved.rom) (run no_logs bytes (cleared (run no_logs bytes m turns).machine) more).acts cut)
 
@@ -143,5 +152,5 @@ pub unsaved_places : UnsavedPlaces
 unsaved_places stop bytes from name m turns more ran front is none cut =
     let first : Ran = run no_logs bytes m turns in
     let ended = has_ended name bytes first more first.last ran is none in
-    cut_in_turn stop no_logs bytes from m turns front
+    in_turns stop bytes from name m turns front
     (subst (λ (r : SaveRan). IsCut stop from r.acts front) ended cut)

@@ -4,7 +4,7 @@ use Rattle.hart_turns.specs.Machine.{MachineState, cleared}
 use Rattle.outside_io.specs.Content.{Held}
 use Rattle.outside_acts.specs.declared.Stop.{Stop}
 use Rattle.outside_acts.specs.declared.Stop.TheVariants.{Files, NoMemory}
-use Rattle.outside_acts.specs.Acts.{Act, IsCut, read}
+use Rattle.outside_acts.specs.Acts.{Act, IsCut, filed, read}
 use Rattle.sim_config.specs.Written.{meta_bytes}
 use Rattle.image_saver.specs.declared.fault.Part.TheVariants.{Mainram, Bootram}
 use Rattle.image_saver.specs.Checkpoint.{meta_file, part_file}
@@ -36,6 +36,12 @@ SaveLeaves name saved before now =
 
 -- ---- the place of the cut
 
+-- it lies in the turns before the checkpoint, and whatever the files held, none of the three was touched
+pub record InTurns (stop : Stop) (bytes : List ℕ) (from : ℕ) (name : List ℕ) (m : MachineState) (turns : ℕ) (front : List Act)
+    : Type 0 where
+  pub leaves : RunLeaves stop no_logs bytes from m turns front
+  pub files : (held : Held) → NotTouched name held (filed front held)
+
 -- it lies in the checkpoint, at a file or for want of memory: all acts before it were done, and of its own a front
 pub record InCheckpoint (stop : Stop) (from : ℕ) (acts save front : List Act) : Type 0 where
   pub left : List Act
@@ -53,6 +59,6 @@ pub record AfterCheckpoint (stop : Stop) (bytes : List ℕ) (from : ℕ) (m : Ma
 -- where a run is cut that saves: in the turns before the checkpoint, in the checkpoint, or in the turns after it
 abbrev pub SavePlace : Stop → List ℕ → ℕ → List ℕ → MachineState → ℕ → ℕ → Saved → List Act → Type 0
 SavePlace stop bytes from name m turns more saved front =
-    RunLeaves stop no_logs bytes from m turns front
+    InTurns stop bytes from name m turns front
     ⊎ InCheckpoint stop from (run no_logs bytes m turns).acts (save_acts name saved.machine saved.rom) front
     ⊎ AfterCheckpoint stop bytes from saved.machine more ((run no_logs bytes m turns).acts ++ save_acts name saved.machine saved.rom) front

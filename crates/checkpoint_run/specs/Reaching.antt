@@ -11,13 +11,13 @@ use Rattle.image_saver.specs.Saving.{save_acts}
 use Rattle.turn_runs.specs.declared.feed.Feed.{Feed}
 use Rattle.turn_runs.specs.Reaching.{Reached}
 use Rattle.turn_runs.specs.Run.{no_logs, run}
-use Rattle.checkpoint_run.specs.Saving.{IsRomOf, IsSaveRan, IsSound, SaveRan}
+use Rattle.checkpoint_run.specs.Saving.{IsRomOf, SaveComesTo, IsSound, SaveRan}
 
 -- so many turns were made in all, the last of which ended so, and whether the machine was saved
 pub record IsSaveRun (bytes : List ℕ) (from : ℕ) (name : List ℕ) (m : MachineState) (turns more : ℕ) (now : MachineState)
     (made : ℕ) (end : TurnEnd) (saved : Bool) (feed : Feed) (before after : World) : Type 0 where
   pub ran : SaveRan
-  pub is : IsSaveRan name bytes m turns more ran
+  pub is : SaveComesTo name bytes m turns more ran
   pub made_is : made ≡ ran.made
   pub end_is : end ≡ ran.last
   pub saved_is : saved ≡ is_some ran.saved
@@ -29,7 +29,7 @@ pub record IsSaveRun (bytes : List ℕ) (from : ℕ) (name : List ℕ) (m : Mach
 pub record SaveStops (stop : Stop) (bytes : List ℕ) (from : ℕ) (name : List ℕ) (m : MachineState) (turns more : ℕ)
     (before after : World) : Type 0 where
   pub ran : SaveRan
-  pub is : IsSaveRan name bytes m turns more ran
+  pub is : SaveComesTo name bytes m turns more ran
   pub cut : DidCut stop bytes from ran.acts before after
 
 -- those of the turns before the save were, which says nothing of a boot ROM; or those of the whole run, and what was

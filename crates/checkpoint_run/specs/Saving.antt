@@ -66,6 +66,6 @@ ComesTo name input first more (Ended code) ran = ran ≡ unsaved first
 ComesTo name input first more (BadHost word) ran = ran ≡ unsaved first
 
 -- a run of so many turns on an input, that saves under this name where none of them ended it, and then of so many more
-abbrev pub IsSaveRan : List ℕ → List ℕ → MachineState → ℕ → ℕ → SaveRan → Type 0
-IsSaveRan name input m turns more ran =
+abbrev pub SaveComesTo : List ℕ → List ℕ → MachineState → ℕ → ℕ → SaveRan → Type 0
+SaveComesTo name input m turns more ran =
     ComesTo name input (run no_logs input m turns) more (run no_logs input m turns).last ran

@@ -34,7 +34,8 @@ pub fn save_cases()
     ensures { SaveCases }
 {}
 
-/// A cut lies in the turns before the checkpoint, in the checkpoint, or in the turns after it.
+/// A cut lies in the turns before the checkpoint, which leave the three files as they were, in the checkpoint, or in the
+/// turns after it.
 pub fn save_places()
     ensures { SavePlaces }
 {}
@@ -45,7 +46,7 @@ pub fn after_is_whole()
     ensures { AfterIsWhole }
 {}
 
-/// Where nothing was saved, a cut lies in one of the turns.
+/// Where nothing was saved, a cut lies in one of the turns, and leaves the three files as they were.
 pub fn unsaved_places()
     ensures { UnsavedPlaces }
 {}

@@ -56,7 +56,8 @@ fn run_unlogged<W: Outside>(
 ///
 /// # Errors
 ///
-/// What failed: the input, the console or a file of the checkpoint; or `NoMemory`.
+/// What failed: the input, the console or a file of the checkpoint; or `NoMemory`. The machine is running then too,
+/// and has taken at most as many bytes of the input as turns were asked for.
 pub fn save_run<W: SavesOutside>(
     alloc: Global,
     machine: &mut Machine,
@@ -76,6 +77,8 @@ pub fn save_run<W: SavesOutside>(
     ensures cut { IfErr result (λ stop. OverInput machine.old.machine feed.old (W.Outside.world outside.old) (λ bytes from.
         StopsAnywhere stop bytes from name.now machine.old.machine turns more
         (W.Outside.world outside.old) (W.Outside.world outside.new))) }
+    ensures takes_few { machine.new.machine.taken ≤ machine.old.machine.taken + turns + more }
+    ensures running { IsTrue (is_running machine.new.machine) }
     ensures cause { Caused save_uses result (W.Outside.world outside.old) (W.Outside.world outside.new) }
     ensures calm { W.Outside.quiet outside.old → IsSome (W.Outside.world outside.old).held →
         GoesQuietly (W.Outside.quiet outside.new) result }

@@ -1,20 +1,20 @@
 -- What a job saved is restored: the checkpoint in the files that it leaves begins as the machine that was saved.
-use Rattle.std.proofs.Common.{◌≡◌, ℕ, List, [], ◌++◌, Option, Some, None, Result, Ok, IfSome, refl, sym, ap, subst, ◌∙◌}
+use Rattle.std.proofs.Common.{◌≡◌, ℕ, List, ◌++◌, Option, Some, None, Result, Ok, IfSome, refl, sym, ap, subst, ◌∙◌}
 use Rattle.outside_io.specs.Content.{Held, Told}
 use Rattle.outside_acts.specs.Acts.{Act, filed}
 use Rattle.outside_acts.specs.World.{World}
 use Rattle.outside_acts.proofs.Algebra.{filed_joined}
+use Rattle.sim_config.specs.declared.values.Shape.{Shape}
 use Rattle.hart_turns.specs.declared.machine.TurnEnd.{TurnEnd}
 use Rattle.hart_turns.specs.declared.machine.TurnEnd.TheVariants.{Goes, Ended, BadHost}
-use Rattle.hart_turns.specs.declared.booting.BootFault.{BootFault}
-use Rattle.hart_turns.specs.Boot.{booted}
+use Rattle.hart_turns.specs.Boot.{Booted}
 use Rattle.hart_turns.specs.Machine.{MachineState, cleared}
 use Rattle.image_saver.specs.Checkpoint.{debug_of}
 use Rattle.image_saver.specs.Saving.{save_acts}
 use Rattle.job_words.specs.Job.{Job, Judge, Save, Turns, Work}
-use Rattle.turn_runs.specs.Resuming.{resume_acts}
+use Rattle.turn_runs.specs.Feeding.{pass_acts}
 use Rattle.turn_runs.specs.Run.{Ran, no_logs, run}
-use Rattle.checkpoint_run.specs.Laws.{Reads}
+use Rattle.checkpoint_run.specs.Laws.{RestoresTo}
 use Rattle.checkpoint_run.specs.Saving.{ComesTo, IsRomOf, IsSound, SaveRan, Saved, saved_between}
 use Rattle.checkpoint_run.proofs.Apart.{apart_keeps, run_apart}
 use Rattle.checkpoint_run.proofs.Restored.{saved_is_restored}
@@ -31,16 +31,13 @@ unlogged input m turns held = λ i. λ name. apart_keeps name (run no_logs input
 abbrev begun_as : MachineState → List Act → Result Begun Status
 begun_as m acts = Ok (record { machine = m; acts = acts })
 
-begins_as : (held : Held) (name : List ℕ) (m : MachineState) → Reads held name (cleared m) → BeginsAs held name m
-begins_as held name m reads =
-    let c = reads.checkpoint in
-    let left = (booted (debug_of c)).left in
-    let taken : (debug_of c).taken ≡ m.taken = ap (λ (x : MachineState). x.taken) reads.becomes in
-    ap restored reads.loads
-    ∙ ap (λ (fault : Option BootFault). begun_by_boot (debug_of c) left fault) reads.boots
-    ∙ ap (λ (x : MachineState). begun_as x (resume_acts left.console (debug_of c).taken)) reads.becomes
-    ∙ ap (λ (sent : List ℕ). begun_as (cleared m) (resume_acts sent (debug_of c).taken)) reads.silent
-    ∙ ap (λ (n : ℕ). begun_as (cleared m) (resume_acts [] n)) taken
+begins_as : (held : Held) (name : List ℕ) (m : MachineState) → RestoresTo held name (cleared m) → BeginsAs held name m
+begins_as held name m restores =
+    let start = debug_of restores.checkpoint in
+    ap restored restores.loads
+    ∙ ap (λ (b : Booted). begun_by_boot start b.left b.fault) restores.boots.boots
+    ∙ ap (λ (shape : Shape). begun_as (record (cleared m) { shape = shape; taken = start.taken }) (pass_acts start.taken)) (sym restores.boots.shape)
+    ∙ ap (λ (n : ℕ). begun_as (record (cleared m) { taken = n }) (pass_acts n)) (sym restores.boots.taken)
 
 -- ---- a work that saves
 
@@ -82,7 +79,7 @@ save_restores turns name more b input outcome held files is sound files_are = λ
     let left : files ≡ filed (save_acts name first.machine rom) before =
     files_are ∙ ap (λ (o : Outcome). filed o.acts held) whole ∙ filed_saved b.acts first.acts (save_acts name first.machine rom) input (cleared first.machine) more held in
     begins_as files name first.machine
-    (subst (λ (h : Held). Reads h name (cleared first.machine)) (sym left) (saved_is_restored before name first.machine rom fine.fit fine.few came.1))
+    (subst (λ (h : Held). RestoresTo h name (cleared first.machine)) (sym left) (saved_is_restored before name first.machine rom fine.fit fine.few came.1))
 
 work_restores : (work : Work) (b : Begun) (input : List ℕ) (outcome : Outcome) (held files : Held) → IsBegunOutcome work input (Ok b) outcome
     → IfSome outcome.saved IsSound → files ≡ filed outcome.acts held → WorkRestores work b.machine input files

@@ -5,7 +5,7 @@ use Rattle.outside_acts.specs.Acts.{Act, ReadTo, Start}
 use Rattle.outside_acts.specs.Calls.{Only}
 use Rattle.outside_acts.specs.World.{Counted, Reading, TheInput}
 use Rattle.checkpoint_run.specs.Reaching.{save_uses}
-use Rattle.checkpoint_run.specs.Saving.{IsSaveRan, IsSound, SaveRan, Saved}
+use Rattle.checkpoint_run.specs.Saving.{SaveComesTo, IsSound, SaveRan, Saved}
 use Rattle.cosim_check.specs.Verdicts.{number}
 use Rattle.cosim_check.specs.declared.verdict.Verdict.{Verdict}
 use Rattle.cosim_check.specs.declared.verdict.Verdict.TheVariants as verdict
@@ -135,7 +135,7 @@ start_acts logs = start_named logs.trace
 -- was read behind the record that decides
 abbrev pub IsWorkOutcome : Work → MachineState → List ℕ → Outcome → Type 0
 IsWorkOutcome (Turns turns logs) m input outcome = outcome ≡ ran_outcome (start_acts logs) (run logs input m turns)
-IsWorkOutcome (Save turns name more) m input outcome = (ran : SaveRan) × IsSaveRan name input m turns more ran × (outcome ≡ save_outcome ran)
+IsWorkOutcome (Save turns name more) m input outcome = (ran : SaveRan) × SaveComesTo name input m turns more ran × (outcome ≡ save_outcome ran)
 IsWorkOutcome Judge m input outcome =
     (count : ℕ) × IsReadTo m.core m.shape.tohost input count × (outcome ≡ judged_outcome (stream_verdict m.core m.shape.tohost input) count)
 
@@ -162,7 +162,7 @@ abbrev pub IsWorkActs : Work → MachineState → List ℕ → List Act → Type
 IsWorkActs (Turns turns logs) m input acts = acts ≡ (ran_outcome (start_acts logs) (run logs input m turns)).acts
 IsWorkActs (Save turns name more) m input acts =
     (acts ≡ (run no_logs input m turns).acts)
-    ⊎ ((ran : SaveRan) × IsSaveRan name input m turns more ran × IfSome ran.saved IsSound × (acts ≡ ran.acts))
+    ⊎ ((ran : SaveRan) × SaveComesTo name input m turns more ran × IfSome ran.saved IsSound × (acts ≡ ran.acts))
 IsWorkActs Judge m input acts = (count : ℕ) × PassesSoFar m.core m.shape.tohost input count × (acts ≡ ReadTo count ∷ [])
 
 -- the acts of a beginning come before those of the work; one that is refused has none
