@@ -11,7 +11,7 @@ def rows(data):
 
 
 def main():
-    parts = ["// The flat images of examples/, as examples/build.sh makes them; tools/example_images.py writes this file."]
+    parts = ["//! The flat images of examples/, as examples/build.sh makes them; tools/example_images.py writes this file."]
     for name in NAMES:
         data = (TOP / "examples" / f"{name}.bin").read_bytes()
         parts.append(f"pub(crate) const {name.upper()}: [u8; {len(data)}] = [\n" + "\n".join(rows(data)) + "\n];")
