@@ -4,10 +4,12 @@
 //! that all harts share. Which instruction is drawn at a number is defined in `specs/Seed.antt`.
 #![tactic(auto)]
 
+mod laws;
 mod program;
 mod start;
 #[cfg(test)]
 mod tests;
 mod words;
 
+pub use laws::program_is_kept;
 pub use start::{NoMemory, seed_start};
