@@ -13,6 +13,7 @@ use Rattle.hart_turns.specs.declared.machine.TurnEnd.{TurnEnd}
 use Rattle.hart_turns.specs.declared.machine.TurnEnd.TheVariants.{Goes, Ended, BadHost}
 use Rattle.hart_turns.specs.Machine.{MachineState, cleared, is_running}
 use Rattle.hart_turns.proofs.Fits.{turns_stay_fit_lem, turns_stay_running_lem}
+use Rattle.rom_gen.specs.Rom.{rom_bytes}
 use Rattle.rom_gen.proofs.Promised.{roms_restore_lem}
 use Rattle.outside_acts.specs.declared.Stop.{Stop}
 use Rattle.outside_acts.specs.declared.Stop.TheVariants.{NoMemory}
@@ -78,7 +79,7 @@ runs_keep logs input m (suc n) bytes going =
 pub has_rom : (m : MachineState) → IsGoing m → (rom : List ℕ) × IsRomOf m rom
 has_rom m going =
     let rom = roms_restore_lem m going.fit going.running in
-    (rom.0, record { short = rom.1; bytes = rom.2; restores = rom.3 })
+    (rom_bytes m.board m.core.harts, record { short = rom.0; bytes = rom.1; restores = rom.2 })
 
 -- memory lacked for it
 pub save_starved : (name : List ℕ) {m : MachineState} {stop : Stop} (w : World) → stop ≡ NoMemory → IsGoing m → SaveWasCut stop name m w w

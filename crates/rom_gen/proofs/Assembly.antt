@@ -51,19 +51,19 @@ all_entries starts out n below above is =
     let end : n ≡ length starts = omega arith in
     is ∙ ap (λ xs. code dispatch_insns ++ table xs) (ap (λ k. take k starts) end ∙ take-length starts)
 
-start_at : (board : BoardState) (harts : List Hart) (i v : ℕ) → i < length harts → v ≡ cond (i == 0) (65560 + 8 * length harts) (rom_base + first_place board harts + length (all_blocks (take i harts))) → v ≡ rom_base + slice_index (start_places board harts) i
+start_at : (board : BoardState) (harts : List Hart) (i v : ℕ) → i < length harts → v ≡ cond (i == 0) (rom_base + (24 + 8 * length harts)) (rom_base + first_place board harts + length (all_blocks (take i harts))) → v ≡ rom_base + slice_index (start_places board harts) i
 start_at board harts i v within is = is ∙ ⊎_elim
-    (λ e. ap (λ b. cond b (65560 + 8 * length harts) (rom_base + first_place board harts + length (all_blocks (take i harts)))) (eq-eqb i 0 e) ∙ omega arith ∙ ap (λ q. rom_base + q) (sym (ap (slice_index (start_places board harts)) e ∙ get_or-set_same (block_places (first_place board harts) harts) 0 (device_place harts) 0 (omega (arith, starts_length (first_place board harts) harts)))))
-    (λ n. ap (λ b. cond b (65560 + 8 * length harts) (rom_base + first_place board harts + length (all_blocks (take i harts)))) (ne_eqb i 0 n) ∙ add_assoc rom_base (first_place board harts) (length (all_blocks (take i harts))) ∙ ap (λ q. rom_base + q) (sym (get_or-set_other (block_places (first_place board harts) harts) 0 i (device_place harts) 0 n ∙ start_is harts (first_place board harts) i within)))
+    (λ e. ap (λ b. cond b (rom_base + (24 + 8 * length harts)) (rom_base + first_place board harts + length (all_blocks (take i harts)))) (eq-eqb i 0 e) ∙ omega arith ∙ ap (λ q. rom_base + q) (sym (ap (slice_index (start_places board harts)) e ∙ get_or-set_same (block_places (first_place board harts) harts) 0 (device_place harts) 0 (omega (arith, starts_length (first_place board harts) harts)))))
+    (λ n. ap (λ b. cond b (rom_base + (24 + 8 * length harts)) (rom_base + first_place board harts + length (all_blocks (take i harts)))) (ne_eqb i 0 n) ∙ add_assoc rom_base (first_place board harts) (length (all_blocks (take i harts))) ∙ ap (λ q. rom_base + q) (sym (get_or-set_other (block_places (first_place board harts) harts) 0 i (device_place harts) 0 n ∙ start_is harts (first_place board harts) i within)))
     (cases_eq i 0)
 
 -- one start more
 pub start_added : (board : BoardState) (harts : List Hart) (i v n first before : ℕ) (old new : List ℕ) → i < length harts → n ≡ length harts →
-    first ≡ rom_base + first_place board harts → before ≡ length (all_blocks (take i harts)) → v ≡ cond (i == 0) (65560 + 8 * n) (first + before) →
+    first ≡ rom_base + first_place board harts → before ≡ length (all_blocks (take i harts)) → v ≡ cond (i == 0) (rom_base + (24 + 8 * n)) (first + before) →
     old ≡ take i (addresses (start_places board harts)) → new ≡ old ++ v ∷ [] → new ≡ take (i + 1) (addresses (start_places board harts))
 start_added board harts i v n first before old new within n_is first_is before_is is old_is new_is =
     let starts : List ℕ = addresses (start_places board harts) in
-    let given : v ≡ cond (i == 0) (65560 + 8 * length harts) (rom_base + first_place board harts + length (all_blocks (take i harts))) = is ∙ ap (λ k. cond (i == 0) (65560 + 8 * k) (first + before)) n_is ∙ ap (λ k. cond (i == 0) (65560 + 8 * length harts) (k + before)) first_is ∙ ap (λ k. cond (i == 0) (65560 + 8 * length harts) (rom_base + first_place board harts + k)) before_is in
+    let given : v ≡ cond (i == 0) (rom_base + (24 + 8 * length harts)) (rom_base + first_place board harts + length (all_blocks (take i harts))) = is ∙ ap (λ k. cond (i == 0) (rom_base + (24 + 8 * k)) (first + before)) n_is ∙ ap (λ k. cond (i == 0) (rom_base + (24 + 8 * length harts)) (k + before)) first_is ∙ ap (λ k. cond (i == 0) (rom_base + (24 + 8 * length harts)) (rom_base + first_place board harts + k)) before_is in
     let v_is : v ≡ slice_index starts i = start_at board harts i v within given ∙ sym (address_at (start_places board harts) i 0 (omega (arith, places_length board harts))) in
     new_is ∙ ap (λ x. x ++ v ∷ []) old_is ∙ ap (λ x. take i starts ++ x ∷ []) v_is ∙ sym (take_more starts i 0 (omega (arith, addresses_length board harts)))
 
@@ -116,8 +116,11 @@ rom_restores m fit running =
     let whole = restores m fit running in
     (whole.0, (total (steps_of m.board m.core.harts) m.shape.harts, record { shape = refl; taken = refl; boots = whole.1 }))
 
--- and so do the bytes that were written, of its harts and devices
+-- the bytes that were written, of its harts and devices, are that ROM
+pub bytes_named : (m : MachineState) (b : BoardState) (c : CoreState) (bytes : List ℕ) → b ≡ m.board → c ≡ m.core → bytes ≡ rom_bytes b c.harts → bytes ≡ rom_bytes m.board m.core.harts
+bytes_named m b c bytes b_is c_is bytes_is = bytes_is ∙ ap (λ (x : CoreState). rom_bytes b x.harts) c_is ∙ ap (λ x. rom_bytes x m.core.harts) b_is
+
+-- and so they restore it
 pub bytes_restore : (m : MachineState) (b : BoardState) (c : CoreState) (bytes : List ℕ) → IsFit m → is_running m ≡ true → b ≡ m.board → c ≡ m.core → bytes ≡ rom_bytes b c.harts → (length bytes ≤ most_rom) × Restores m bytes
 bytes_restore m b c bytes fit running b_is c_is bytes_is =
-    let is : bytes ≡ rom_bytes m.board m.core.harts = bytes_is ∙ ap (λ (x : CoreState). rom_bytes b x.harts) c_is ∙ ap (λ x. rom_bytes x m.core.harts) b_is in
-    subst (λ x. (length x ≤ most_rom) × Restores m x) (sym is) (rom_restores m fit running)
+    subst (λ x. (length x ≤ most_rom) × Restores m x) (sym (bytes_named m b c bytes b_is c_is bytes_is)) (rom_restores m fit running)

@@ -8,8 +8,8 @@ use Rattle.hart_step.specs.Memory.{most_rom, rom_base}
 use Rattle.hart_turns.specs.Boot.{Booting, most_steps}
 use Rattle.rom_gen.specs.Items.{StandAt}
 use Rattle.rom_gen.specs.HartWants.{controls}
-use Rattle.rom_gen.specs.Rom.{device_bytes, device_items, hart_bytes, hart_items, pool_place, rom_bytes}
-use Rattle.rom_gen.specs.Executed.{IsPlace, RestoresDevices, RestoresHart}
+use Rattle.rom_gen.specs.Rom.{device_bytes, device_items, hart_bytes, hart_items, pool_place}
+use Rattle.rom_gen.specs.Executed.{IsBlockAddress, RestoresDevices, RestoresHart}
 use Rattle.rom_gen.specs.Laws.{DevicesRestored, RegistersRestored, RomsRestore}
 use Rattle.rom_gen.proofs.Layouts.{all_csrs}
 use Rattle.rom_gen.proofs.Assembly.{rom_restores}
@@ -33,7 +33,7 @@ hart_restored target at form out b h place at_is come none there =
     (hart_steps target, few, hart_part b h place target (is_target target form out) come none there)
 
 -- that of the devices
-pub board_restored : (board : BoardState) (at next : ℕ) → IsFit board → IsPlace next → RestoresDevices board at next (device_bytes board next)
+pub board_restored : (board : BoardState) (at next : ℕ) → IsFit board → IsBlockAddress next → RestoresDevices board at next (device_bytes board next)
 board_restored board at next fit is_place b h place after csrs at_is next_is come there count fresh =
     let even : after % 8 ≡ 0 = omega (arith, is_place.aligned) in
     let near : after ≤ most_rom = omega (arith, is_place.high) in
@@ -58,4 +58,4 @@ devices_restored_lem b h place off csrs target fit come pooled count fresh =
 pub roms_restore_lem : RomsRestore
 roms_restore_lem m fit running =
     let whole = rom_restores m fit running in
-    (rom_bytes m.board m.core.harts, whole.0, rom_bytes_fit m.board m.core.harts, whole.1)
+    (whole.0, rom_bytes_fit m.board m.core.harts, whole.1)

@@ -1,5 +1,5 @@
 -- One want after another is written.
-use Rattle.std.specs.Prelude.{slice_index, map, All, IsTrue, Bool, true, ◌&&◌}
+use Rattle.std.specs.Prelude.{slice_index, All, IsTrue, Bool, true, ◌&&◌}
 use Rattle.std.proofs.Common.{◌≡◌, ℕ, zero, suc, ◌+◌, ◌*◌, ◌/◌, ◌<◌, ◌≤◌, List, [], ◌∷◌, ◌++◌, length, take, refl, sym, ap, ◌∙◌, arith, subst, append_assoc, length-append}
 use Rattle.std.proofs.lemmas.Bool.{and_parts}
 use Rattle.std.proofs.lemmas.List.{append-nil, take_more}

@@ -6,7 +6,9 @@ use Rattle.rom_gen.specs.Wants.{put_insns, put_values}
 
 -- Aim r v: the base register r gets the address v. Save width v by off at: the value v goes through x6 to the device
 -- register at the address at, which is reached from the base register by with the offset off; 0 goes there from x0.
--- Again: what x6 has, which is v, goes there. Read width by off at: x6 gets what is read there
+-- Again: what x6 has, which is v, goes there. Read width by off at: x6 gets what is read there. The at of Save,
+-- Again and Read, and the v of Again, stand in no word: they say for the proofs which device register is reached, and
+-- what x6 has
 pub data Deed : Type 0 where
   Aim : ℕ → ℕ → Deed
   Save : Width → ℕ → ℕ → ℤ → ℕ → Deed

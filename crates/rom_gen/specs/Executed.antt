@@ -23,12 +23,13 @@ Restores m rom = (steps : ℕ) × Boots (debug_machine m.shape m.taken m.core.ra
 -- ---- its parts
 
 -- an address in the ROM's range at which a block may begin
-pub record IsPlace (at : ℕ) : Type 0 where
+pub record IsBlockAddress (at : ℕ) : Type 0 where
   pub low : rom_base ≤ at
   pub high : at < rom_base + most_rom
   pub aligned : at % 8 ≡ 0
 
--- hart h has come to a block, which begins at a place of the ROM: x1 has its address
+-- hart h has come to a block, which begins at a place of the ROM that is a multiple of 8: x1 has its address, and its
+-- control and status registers are these
 pub record HasCome (b : Booting) (h place : ℕ) (csrs : Registers) : Type 0 where
   pub inside : h < length b.core.harts
   pub stands : Stands (memory_of b.core) (hart_of b.core h) place
@@ -49,7 +50,7 @@ pub record HasBegun (b : Booting) (h : ℕ) : Type 0 where
   pub stands : Stands (memory_of b.core) (hart_of b.core h) 0
   pub number : (hart_of b.core h).csrs.hart ≡ h
 
--- the hart behind the dispatch: at its start, which x1 has
+-- hart h behind the dispatch: at its start, which x1 has, and with 8 h in x2
 abbrev pub sent_on : ℕ → ℕ → Hart → Hart
 sent_on h start hart = record hart { x = slice_set (slice_set hart.x 1 start) 2 (8 * h); pc = even_part start }
 

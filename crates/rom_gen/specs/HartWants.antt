@@ -24,6 +24,7 @@ numbered (suc n) i xs = Reg i (slice_index xs i) ∷ numbered n (suc i) xs
 abbrev pub controls : Hart → List Want
 controls target = number_wants target.csrs kept_numbers ++ (Control csr_dcsr (dcsr_fixed + level target.mode) ∷ Control csr_dpc target.pc ∷ [])
 
+-- x2 to x31
 abbrev pub registers : Hart → List Want
 registers target = numbered 30 2 target.x
 

@@ -56,7 +56,8 @@ code (insn ∷ rest) = little_bytes 4 (encoded insn) ++ code rest
 abbrev pub StandAt : List ℕ → ℕ → List ℕ → Type 0
 StandAt bytes p rom = (rest : List ℕ) × (drop p rom ≡ bytes ++ rest)
 
--- a hart in debug mode that is to execute what stands at place p of the ROM
+-- a hart in debug mode that is to execute what stands at place p of a ROM that is no longer than its range; it has 32
+-- registers x, and 0 in x0
 pub record Stands (memory : MemoryState) (hart : Hart) (p : ℕ) : Type 0 where
   pub debugs : is_in_debug hart ≡ true
   pub at : hart.pc ≡ rom_base + p

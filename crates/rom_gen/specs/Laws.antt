@@ -1,5 +1,5 @@
 -- What follows from the definitions: the steps of an item, of a list of items, of the two kinds of blocks, and that
--- every running machine has a ROM that restores it.
+-- every well-formed running machine is restored by the ROM of its devices and harts.
 use Rattle.std.specs.Prelude.{◌≡◌, Some, None, ℕ, ◌+◌, ◌<◌, ◌≤◌, ◌++◌, IsTrue, List, length}
 use Rattle.rv_alu.specs.Modes.{level}
 use Rattle.rv_decode.specs.declared.Insn.{Insn}
@@ -23,6 +23,7 @@ use Rattle.rom_gen.specs.Wants.{Pooled, hart_all, placed, want_items, want_value
 use Rattle.rom_gen.specs.HartWants.{controls}
 use Rattle.rom_gen.specs.Deeds.{all_deed_values, placed_deeds}
 use Rattle.rom_gen.specs.DeviceBlock.{device_deeds}
+use Rattle.rom_gen.specs.Rom.{rom_bytes}
 use Rattle.rom_gen.specs.Executed.{HasCome, Restores}
 
 -- where a hart in debug mode stands at a spelling of an item, as many steps as it has words do what the item does, none
@@ -59,6 +60,8 @@ DevicesRestored =
     × ((all_do h (placed_deeds off (device_deeds target)) b).board ≡ target)
     × ((all_do h (placed_deeds off (device_deeds target)) b).console ≡ b.console)
 
--- every running machine has a ROM that restores it
+-- every well-formed running machine is restored by the ROM of its devices and harts, which fits and is made of bytes
 abbrev pub RomsRestore : Type 0
-RomsRestore = (m : MachineState) → IsFit m → IsTrue (is_running m) → (rom : List ℕ) × (length rom ≤ most_rom) × AreBytes rom × Restores m rom
+RomsRestore =
+    (m : MachineState) → IsFit m → IsTrue (is_running m) →
+    (length (rom_bytes m.board m.core.harts) ≤ most_rom) × AreBytes (rom_bytes m.board m.core.harts) × Restores m (rom_bytes m.board m.core.harts)

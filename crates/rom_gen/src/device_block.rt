@@ -1,12 +1,12 @@
 //! The block that puts the devices back.
 
-ghost use Rattle.std.specs.Prelude.{◌≡◌, ◌+◌, ◌*◌, ◌<◌, ◌≤◌, [], IfOk, OnOk, slice_index};
+ghost use Rattle.std.specs.Prelude.{◌≡◌, ◌+◌, ◌*◌, ◌%◌, ◌<◌, ◌≤◌, [], IfOk, OnOk, length, slice_index};
 ghost use Rattle.clint.specs.State.{hart_count};
 ghost use Rattle.plic.specs.State.{context_count};
 ghost use Rattle.board_bus.specs.Board.{hart_count as board_harts};
 ghost use Rattle.rom_gen.specs.DeviceBlock.{compare_deeds, context_deeds, device_deeds, marks_deeds, queue_deeds, soft_deeds};
-ghost use Rattle.rom_gen.specs.Executed.{IsPlace, RestoresDevices};
-ghost use Rattle.rom_gen.specs.Rom.{device_bytes};
+ghost use Rattle.rom_gen.specs.Executed.{IsBlockAddress, RestoresDevices};
+ghost use Rattle.rom_gen.specs.Rom.{device_bytes, device_size};
 ghost use Rattle.rom_gen.specs.Writing.{Dealt, offset_of};
 
 use crate::rom::NoMemory;
@@ -19,8 +19,8 @@ use plic::Plic;
 use std::alloc::Global;
 
 /// The block of the boot ROM that puts the devices of a board for so many harts back, and goes on at the
-/// address `next`. It begins at `at`; the code is relative to x1, which has that address, so the same bytes
-/// serve at every other. Both addresses are multiples of 8 in the ROM's range.
+/// address `next`, a multiple of 8 in the ROM's range. It begins at `at`; the code is relative to x1, which
+/// has that address, so the same bytes serve at every other.
 ///
 /// # Errors
 ///
@@ -33,9 +33,11 @@ pub fn device_stub(
     next: u64,
 ) -> Result<Vec<u8>, NoMemory>
     requires harts { harts ≡ board_harts board.now }
-    requires at { IsPlace at }
-    requires next { IsPlace next }
+    requires next { IsBlockAddress next }
     ensures bytes { IfOk result (λ v. v.items ≡ device_bytes board.now next) }
+    ensures size { IfOk result (λ v. length v.items ≡ device_size board.now) }
+    ensures aligned { IfOk result (λ v. length v.items % 8 ≡ 0) }
+    ensures short { IfOk result (λ v. length v.items ≤ 1616) }
     ensures executed { IfOk result (λ v. RestoresDevices board.now at next v.items) }
 {
     board.see_fit();

@@ -10,7 +10,8 @@ use crate::writer::{push_value, push_word};
 use std::alloc::Global;
 
 /// The first bytes of a boot ROM, which send each hart to the address that is listed at its number:
-/// six words and the table of the addresses. There are 1 to 8 of these. Bit 0 of an address is dropped.
+/// six words and the table of the addresses. There are 1 to 8 of these. x1 has the address then, and the
+/// pc has it without bit 0.
 ///
 /// # Errors
 ///

@@ -1,6 +1,6 @@
 //! The block that puts a hart back.
 
-ghost use Rattle.std.specs.Prelude.{◌≡◌, ◌+◌, ◌*◌, ◌<◌, ◌≤◌, All, IfOk, IsFalse, IsTrue, None, OnOk, length};
+ghost use Rattle.std.specs.Prelude.{◌≡◌, ◌+◌, ◌*◌, ◌%◌, ◌<◌, ◌≤◌, All, IfOk, IsFalse, IsTrue, None, OnOk, length};
 ghost use Rattle.rv_alu.specs.Modes.{level};
 ghost use Rattle.csr_file.specs.Bits.{dcsr_fixed};
 ghost use Rattle.csr_file.specs.Legal.{keeps_value, kept_numbers};
@@ -9,7 +9,7 @@ ghost use Rattle.hart_step.specs.Fit.{IsWellFormed};
 ghost use Rattle.rom_gen.specs.Executed.{RestoresHart};
 ghost use Rattle.rom_gen.specs.HartWants.{number_wants, numbered};
 ghost use Rattle.rom_gen.specs.Items.{all_insns};
-ghost use Rattle.rom_gen.specs.Rom.{hart_bytes, hart_items, hart_values};
+ghost use Rattle.rom_gen.specs.Rom.{hart_bytes, hart_items, hart_size, hart_values};
 ghost use Rattle.rom_gen.specs.Wants.{Control, want_items, want_values};
 ghost use Rattle.rom_gen.specs.Writing.{Adds, Wrote, offset_of};
 
@@ -40,6 +40,9 @@ pub fn hart_stub(alloc: Global, hart: &Hart, at: u64) -> Result<Vec<u8>, NoMemor
     requires form { IsWellFormed hart.now }
     requires outside { hart.now.csrs.debug ≡ None }
     ensures bytes { IfOk result (λ v. v.items ≡ hart_bytes hart.now) }
+    ensures size { IfOk result (λ v. length v.items ≡ hart_size hart.now) }
+    ensures aligned { IfOk result (λ v. length v.items % 8 ≡ 0) }
+    ensures short { IfOk result (λ v. length v.items ≤ 1112) }
     ensures executed { IfOk result (λ v. RestoresHart hart.now at v.items) }
 {
     hart_block(alloc, hart)

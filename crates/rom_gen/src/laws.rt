@@ -22,7 +22,7 @@ pub fn devices_restored()
     ensures { DevicesRestored }
 {}
 
-/// Every running machine has a ROM that restores it.
+/// Every well-formed running machine is restored by the ROM of its devices and harts.
 pub fn roms_restore()
     ensures { RomsRestore }
 {}

@@ -2,7 +2,7 @@
 
 ghost use Rattle.std.specs.Prelude.{◌≡◌, ◌+◌, ◌*◌, ◌<◌, ◌≤◌, ◌==◌, IfOk, IsTrue, if◌then◌else◌, length};
 ghost use Rattle.board_bus.specs.Board.{hart_count};
-ghost use Rattle.hart_step.specs.Memory.{most_rom};
+ghost use Rattle.hart_step.specs.Memory.{most_rom, rom_base};
 ghost use Rattle.hart_turns.specs.Machine.{is_running};
 ghost use Rattle.rom_gen.specs.Executed.{Restores};
 ghost use Rattle.rom_gen.specs.Rom.{device_size, rom_bytes};
@@ -58,6 +58,7 @@ impl Rom {
 pub fn rom_of(alloc: Global, m: &Machine) -> Result<Rom, NoMemory>
     requires running { IsTrue (is_running m.now.machine) }
     ensures room { IfOk result (λ rom. length rom ≤ most_rom) }
+    ensures bytes { IfOk result (λ rom. rom ≡ rom_bytes m.now.machine.board m.now.machine.core.harts) }
     ensures restores { IfOk result (λ rom. Restores m.now.machine rom) }
 {
     m.see_fit();
@@ -92,7 +93,7 @@ fn bytes_of(alloc: Global, core: &Core, board: &Board, harts: u8) -> Result<Vec<
 fn start_of(h: u8, harts: u8, first: u64, before: u32) -> u64
     requires first { first ≤ 100000 }
     requires before { before ≤ 10000 }
-    ensures { result ≡ (if h == 0 then 65560 + 8 * harts else first + before) }
+    ensures { result ≡ (if h == 0 then rom_base + (24 + 8 * harts) else first + before) }
 {
     if h == 0 {
         0x1_0018 + 8 * u64::from(harts)

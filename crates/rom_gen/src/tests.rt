@@ -1,8 +1,8 @@
 //! Machines and their ROMs. The words are those of an assembler (LLVM); what the ROMs are to be was
 //! written by tools/boot_rom.py, which shares nothing with this crate and executes each of them too.
 
-ghost use Rattle.std.specs.Prelude.{◌<◌, IfSome};
-ghost use Rattle.rom_gen.specs.Executed.{IsPlace};
+ghost use Rattle.std.specs.Prelude.{◌≡◌, ◌%◌, ◌<◌, ◌≤◌, IfOk, IfSome, length};
+ghost use Rattle.rom_gen.specs.Executed.{IsBlockAddress};
 
 mod first;
 mod laid;
@@ -119,24 +119,13 @@ fn a_hart_at_reset(rt: HostRuntime) -> Result<(), Fail> {
 
 // ---- the three parts
 
-/// A place for a block: a multiple of 8 in the ROM's range.
-fn is_place(rt: &impl Abort, at: u64)
-    ensures { IsPlace at }
-{
-    assert!(rt; at % 8 == 0 && 0x1_0000 <= at && at < 0x3_0000);
-}
-
 /// The part for the devices, which stands at one address and goes on at another.
-fn device_part(
-    rt: &impl Abort,
-    alloc: Global,
-    machine: &Machine,
-    at: u64,
-    next: u64,
-) -> Result<Vec<u8>, NoMemory> {
+fn device_part(alloc: Global, machine: &Machine, at: u64, next: u64) -> Result<Vec<u8>, NoMemory>
+    requires { IsBlockAddress next }
+    ensures aligned { IfOk result (λ v. length v.items % 8 ≡ 0) }
+    ensures short { IfOk result (λ v. length v.items ≤ 1616) }
+{
     machine.see_fit();
-    is_place(rt, at);
-    is_place(rt, next);
     device_stub(alloc, machine.board(), machine.shape().harts, at, next)
 }
 
@@ -165,9 +154,9 @@ fn first_part(rt: &impl Abort, alloc: Global, starts: &[u64]) -> Result<Vec<u8>,
 fn assembled(rt: &impl Abort, alloc: Global, machine: &Machine) -> Result<Vec<u8>, NoMemory> {
     let harts = machine.shape().harts;
     let at = 0x1_0018 + 8 * u64::from(harts);
-    let draft = device_part(rt, alloc, machine, at, at)?;
-    let next = at.wrapping_add(draft.len() as u64);
-    let mut code = device_part(rt, alloc, machine, at, next)?;
+    let draft = device_part(alloc, machine, at, at)?;
+    let next = at + draft.len() as u64;
+    let mut code = device_part(alloc, machine, at, next)?;
     let mut starts = Vec::new(alloc);
     for h in 0..harts {
         let place = at.wrapping_add(code.len() as u64);
