@@ -1,5 +1,5 @@
 -- Which harts a boot moves, and in which order.
-use Rattle.std.proofs.Common.{◌≡◌, ◌≢◌, ℕ, zero, suc, ◌<◌, ⊎_elim, Bool, true, false, cond, List, [], ◌∷◌, length, map, refl, sym, ap, ◌∙◌, arith, subst}
+use Rattle.std.proofs.Common.{◌≡◌, ◌≢◌, ℕ, zero, suc, ◌<◌, ⊎_elim, Bool, true, false, cond, List, [], ◌∷◌, length, map, refl, ap, ◌∙◌, arith}
 use Rattle.std.specs.Prelude.{Option, Some, None, nat_lt}
 use Rattle.std.specs.List.{position, position_or_len}
 use Rattle.std.proofs.lemmas.List.Sums.{position_or_len_is}
@@ -12,9 +12,8 @@ use Rattle.hart_step.specs.Answers.{Given}
 use Rattle.hart_step.specs.Harts.{CoreState, hart_of, is_in_debug, reset_hart}
 use Rattle.hart_step.specs.Step.{HartAnswer, after_store, hart_step, is_touched, memory_of, step, without_reservation}
 use Rattle.hart_turns.specs.declared.booting.BootFault.{BootFault}
-use Rattle.hart_turns.specs.Boot.{BootSteps, Booted, Booting, StepsAt, boot_hart, boot_harts, boot_step, boots_next, most_steps, onward, step_exception}
+use Rattle.hart_turns.specs.Boot.{Booted, Booting, boot_hart, boot_harts, boot_step, boots_next, most_steps, onward, step_exception}
 use Rattle.hart_turns.specs.Gives.{board_gives}
-use Rattle.hart_turns.specs.Laws.{LowestSteps}
 
 -- ---- a step and the other harts
 
@@ -123,35 +122,15 @@ harts_free (suc n) b none j below = next_frees n (boot_harts n b).left (boot_har
 
 -- ---- which hart steps
 
-steps_keep : (P : Booting → Type 0) (h : ℕ) → ((b : Booting) → P b → P (boot_step h b)) → (fuel : ℕ) (b c : Booting) → P b → is_in_debug (hart_of b.core h) ≡ true → StepsAt fuel h b c → P c × (is_in_debug (hart_of c.core h) ≡ true)
-unfolding StepsAt
-steps_keep P h each zero b c holds debugs steps = absurd steps
-steps_keep P h each (suc fuel) b c holds debugs steps = ⊎_elim
-    (λ e. (subst P (sym e) holds, ap (λ (x : Booting). is_in_debug (hart_of x.core h)) e ∙ debugs))
-    (λ r. steps_keep P h each fuel (boot_step h b) c (each b holds) r.1 r.2)
-    steps
-
 -- the first hart in debug mode is the lowest
-lowest_is : (harts : List Hart) (h : ℕ) → h < length harts → ((j : ℕ) → j < h → is_in_debug (get_or harts j (reset_hart 0 0)) ≡ false) → is_in_debug (get_or harts h (reset_hart 0 0)) ≡ true → position is_in_debug harts ≡ Some h
+pub lowest_is : (harts : List Hart) (h : ℕ) → h < length harts → ((j : ℕ) → j < h → is_in_debug (get_or harts j (reset_hart 0 0)) ≡ false) → is_in_debug (get_or harts h (reset_hart 0 0)) ≡ true → position is_in_debug harts ≡ Some h
 lowest_is harts h inside before here =
     let place : position_or_len is_in_debug harts ≡ h = position_or_len_is is_in_debug harts h (reset_hart 0 0) (omega arith) before (λ within. here) in
     ap (λ i. cond (nat_lt i (length harts)) (Some i) None) place ∙ ap (λ b. cond b (Some h) None) (lt-ltb h (length harts) inside)
 
 -- the harts below n are out of debug mode, and there is a hart n
-abbrev At : ℕ → Booting → Type 0
+abbrev pub At : ℕ → Booting → Type 0
 At n b = ((j : ℕ) → j < n → Out j b) × (n < length b.core.harts)
 
-at_stays : (n : ℕ) (b : Booting) → At n b → At n (boot_step n b)
+pub at_stays : (n : ℕ) (b : Booting) → At n b → At n (boot_step n b)
 at_stays n b at = (λ j below. stays_out j n (omega arith) b (at.0 j below), omega (arith, at.1, harts_stay (board_gives b.board n (hart_of b.core n)) b.core n))
-
-pub lowest_steps_lem : LowestSteps
-unfolding BootSteps
-lowest_steps_lem zero b h c few steps = absurd steps
-lowest_steps_lem (suc n) b h c few steps = ⊎_elim
-    (λ earlier. lowest_steps_lem n b h c (omega arith) earlier)
-    (λ now.
-    let x : Booting = (boot_harts n b).left in
-    let inside : length x.core.harts ≡ length b.core.harts = boot_many n b in
-    let kept = steps_keep (At n) n (at_stays n) most_steps x c (λ j below. harts_free n b now.1 j below, omega arith) now.2 now.3 in
-    lowest_is c.core.harts n kept.0.1 kept.0.0 kept.1 ∙ ap (λ k. Some k) (sym now.0))
-    steps

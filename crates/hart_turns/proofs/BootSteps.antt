@@ -3,7 +3,7 @@ use Rattle.std.proofs.Common.{◌≡◌, ℕ, suc, ◌+◌, ◌*◌, ◌-◌, �
 use Rattle.std.specs.Prelude.{Some, None}
 use Rattle.hart_step.specs.Harts.{hart_of, is_in_debug}
 use Rattle.hart_turns.specs.declared.booting.BootFault.TheVariants.{Trap, Long}
-use Rattle.hart_turns.specs.declared.running.Running.{Running}
+use Rattle.hart_turns.specs.declared.stepping.Stepping.{Stepping}
 use Rattle.hart_turns.specs.Boot.{Booting, Frees, Leads, boot_hart, boot_step, most_steps, onward, step_exception}
 use Rattle.hart_turns.specs.Kept.{KeepsForm, booting_of}
 use Rattle.hart_turns.proofs.Steps.{form_on, same_form}
@@ -48,32 +48,32 @@ frees_within h n most b b' frees fits =
 -- ---- over what the code keeps
 
 -- a hart on its way: what is left of its boot is what is left from here
-pub record OnItsWay (h : ℕ) (start now : Running) (first steps made : ℕ) : Type 0 where
+pub record OnItsWay (h : ℕ) (start now : Stepping) (first steps made : ℕ) : Type 0 where
   pub same : boot_hart most_steps h (booting_of start first) ≡ boot_hart (most_steps - made) h (booting_of now steps)
   pub form : KeepsForm start now
   pub sent : length now.outside.output.bytes ≤ length start.outside.output.bytes + 256 * made
   pub count : steps ≡ first + made
 
-pub begins : (h : ℕ) (start : Running) (first : ℕ) → OnItsWay h start start first first 0
+pub begins : (h : ℕ) (start : Stepping) (first : ℕ) → OnItsWay h start start first first 0
 begins h start first = record { same = refl; form = same_form start; sent = omega arith; count = omega arith }
 
 -- one step was made
-pub record Made (h : ℕ) (before after : Running) : Type 0 where
+pub record Made (h : ℕ) (before after : Stepping) : Type 0 where
   pub step : booting_of after 1 ≡ boot_step h (booting_of before 0)
   pub form : KeepsForm before after
   pub sent : length after.outside.output.bytes ≤ length before.outside.output.bytes + 256
 
-counted : (h steps : ℕ) (before after : Running) → Made h before after → boot_step h (booting_of before steps) ≡ booting_of after (steps + 1)
+counted : (h steps : ℕ) (before after : Stepping) → Made h before after → boot_step h (booting_of before steps) ≡ booting_of after (steps + 1)
 counted h steps before after made = ap (λ (b : Booting). record b { steps = steps + 1 }) (sym made.step)
 
 fuel_left : (made : ℕ) → made < most_steps → most_steps - made ≡ suc (most_steps - (made + 1))
 fuel_left made within = omega arith
 
 -- what is left of a hart's boot at its next step
-at_step : (h : ℕ) (start before : Running) (first steps made : ℕ) → OnItsWay h start before first steps made → made < most_steps → boot_hart most_steps h (booting_of start first) ≡ boot_hart (suc (most_steps - (made + 1))) h (booting_of before steps)
+at_step : (h : ℕ) (start before : Stepping) (first steps made : ℕ) → OnItsWay h start before first steps made → made < most_steps → boot_hart most_steps h (booting_of start first) ≡ boot_hart (suc (most_steps - (made + 1))) h (booting_of before steps)
 at_step h start before first steps made way within = way.same ∙ ap (λ n. boot_hart n h (booting_of before steps)) (fuel_left made within)
 
-pub goes_on : (h : ℕ) (start before after : Running) (first steps made : ℕ) → OnItsWay h start before first steps made → made < most_steps → Made h before after → step_exception h (booting_of before 0) ≡ None → is_in_debug (hart_of after.core h) ≡ true → OnItsWay h start after first (steps + 1) (made + 1)
+pub goes_on : (h : ℕ) (start before after : Stepping) (first steps made : ℕ) → OnItsWay h start before first steps made → made < most_steps → Made h before after → step_exception h (booting_of before 0) ≡ None → is_in_debug (hart_of after.core h) ≡ true → OnItsWay h start after first (steps + 1) (made + 1)
 goes_on h start before after first steps made way within one none debugs = record {
   same = at_step h start before first steps made way within
       ∙ hart_goes (most_steps - (made + 1)) h (booting_of before steps) (booting_of after (steps + 1)) (counted h steps before after one) none debugs;
@@ -82,17 +82,17 @@ goes_on h start before after first steps made way within one none debugs = recor
   count = let a = way.count in omega arith;
 }
 
-pub frees_here : (h : ℕ) (start before after : Running) (first steps made : ℕ) → OnItsWay h start before first steps made → made < most_steps → Made h before after → step_exception h (booting_of before 0) ≡ None → is_in_debug (hart_of after.core h) ≡ false → boot_hart most_steps h (booting_of start first) ≡ record { left = booting_of after (steps + 1); fault = None }
+pub frees_here : (h : ℕ) (start before after : Stepping) (first steps made : ℕ) → OnItsWay h start before first steps made → made < most_steps → Made h before after → step_exception h (booting_of before 0) ≡ None → is_in_debug (hart_of after.core h) ≡ false → boot_hart most_steps h (booting_of start first) ≡ record { left = booting_of after (steps + 1); fault = None }
 frees_here h start before after first steps made way within one none debugs =
     at_step h start before first steps made way within
     ∙ hart_frees (most_steps - (made + 1)) h (booting_of before steps) (booting_of after (steps + 1)) (counted h steps before after one) none debugs
 
-pub traps_here : (h pc cause : ℕ) (start before after : Running) (first steps made : ℕ) → OnItsWay h start before first steps made → made < most_steps → Made h before after → step_exception h (booting_of before 0) ≡ Some (pc, cause) → boot_hart most_steps h (booting_of start first) ≡ record { left = booting_of after (steps + 1); fault = Some (Trap h pc cause) }
+pub traps_here : (h pc cause : ℕ) (start before after : Stepping) (first steps made : ℕ) → OnItsWay h start before first steps made → made < most_steps → Made h before after → step_exception h (booting_of before 0) ≡ Some (pc, cause) → boot_hart most_steps h (booting_of start first) ≡ record { left = booting_of after (steps + 1); fault = Some (Trap h pc cause) }
 traps_here h pc cause start before after first steps made way within one some =
     at_step h start before first steps made way within
     ∙ hart_traps (most_steps - (made + 1)) h pc cause (booting_of before steps) (booting_of after (steps + 1)) (counted h steps before after one) some
 
-pub long_here : (h : ℕ) (start now : Running) (first steps made : ℕ) → OnItsWay h start now first steps made → made ≡ most_steps → boot_hart most_steps h (booting_of start first) ≡ record { left = booting_of now steps; fault = Some (Long h) }
+pub long_here : (h : ℕ) (start now : Stepping) (first steps made : ℕ) → OnItsWay h start now first steps made → made ≡ most_steps → boot_hart most_steps h (booting_of start first) ≡ record { left = booting_of now steps; fault = Some (Long h) }
 unfolding boot_hart
 long_here h start now first steps made way all =
     let none : most_steps - made ≡ 0 = omega arith in way.same ∙ ap (λ n. boot_hart n h (booting_of now steps)) none

@@ -10,6 +10,9 @@ pub mod BootSteps
 pub mod BootHarts
 pub mod BootLaws
 pub mod BootEnds
+pub mod Lowest
+pub mod LowestParts
+pub mod LowestOnly
 pub mod BootAnswers
 pub mod Fits
 pub mod BootFits

@@ -1,7 +1,7 @@
 -- A boot: each hart in debug mode, in order of number, makes its steps until it leaves that mode. So it is always the
--- lowest hart in debug mode that steps, and all others are held (External Debug Support, "Debug Mode"; the order and the
--- bound on steps are this project's own). Nothing here knows how a boot ROM was made.
-use Rattle.std.specs.Prelude.{◌≡◌, ◌⊎◌, true, ℕ, zero, suc, ◌+◌, ◌++◌, if◌then◌else◌, List, [], Option, Some, None, Result, Ok, Err}
+-- lowest hart in debug mode that steps (Lowest.antt), and all others are held (External Debug Support, "Debug Mode"; the
+-- order and the bound on steps are this project's own). Nothing here knows how a boot ROM was made.
+use Rattle.std.specs.Prelude.{◌≡◌, ℕ, zero, suc, ◌+◌, ◌++◌, if◌then◌else◌, List, [], Option, Some, None, Result, Ok, Err}
 use Rattle.board_bus.specs.Board.{BoardState}
 use Rattle.hart_step.specs.Events.{exception_of}
 use Rattle.hart_step.specs.Harts.{CoreState, hart_of, is_in_debug}
@@ -100,25 +100,9 @@ answered steps (Some fault) = Err fault
 abbrev pub answer_of : Booted → Result ℕ BootFault
 answer_of b = answered b.left.steps b.fault
 
--- n boot steps, none of them an exception and at most 1,024 of any hart, lead from m to m' and send these bytes: a step
--- is made by the lowest hart in debug mode (`LowestSteps`), and none is left in it (`BootsEnd`)
+-- n boot steps, each made by the lowest hart in debug mode, none of them an exception and at most 1,024 of any hart, lead
+-- from m to m', where no hart is in debug mode (`BootsAreLowest`), and send these bytes
 pub record Boots (m : MachineState) (n : ℕ) (m' : MachineState) (bytes : List ℕ) : Type 0 where
   pub shape : m'.shape ≡ m.shape
   pub taken : m'.taken ≡ m.taken
   pub boots : booted m ≡ record { left = record { core = m'.core; board = m'.board; console = bytes; steps = n }; fault = None }
-
--- ---- which hart steps
-
--- on its way from b, hart h steps at c, where so many steps are left to it
-unfoldable pub StepsAt : ℕ → ℕ → Booting → Booting → Type 0
-StepsAt zero h b c = ⊥
-StepsAt (suc fuel) h b c =
-    (c ≡ b)
-    ⊎ ((step_exception h b ≡ None) × (is_in_debug (hart_of (boot_step h b).core h) ≡ true) × StepsAt fuel h (boot_step h b) c)
-
--- in a boot of the first n harts from b, hart h steps at c
-unfoldable pub BootSteps : ℕ → Booting → ℕ → Booting → Type 0
-BootSteps zero b h c = ⊥
-BootSteps (suc n) b h c =
-    BootSteps n b h c
-    ⊎ ((h ≡ n) × ((boot_harts n b).fault ≡ None) × (is_in_debug (hart_of (boot_harts n b).left.core n) ≡ true) × StepsAt most_steps n (boot_harts n b).left c)

@@ -2,6 +2,7 @@ pub mod Machine
 pub mod Gives
 pub mod Turn
 pub mod Boot
+pub mod Lowest
 pub mod Kept
 pub mod Fit
 pub mod Laws

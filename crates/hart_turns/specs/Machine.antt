@@ -14,7 +14,8 @@ pub record MachineState : Type 0 where
   pub board : BoardState
   pub taken : ℕ
 
--- a machine, with the console bytes and the events of its last turn or boot
+-- a machine, with the console bytes of its last turn or boot, and the events of its last turn, of which there are none
+-- after an unseen turn and after a boot
 pub record MachineView : Type 0 where
   pub machine : MachineState
   pub console : List ℕ

@@ -8,7 +8,7 @@ ghost use Rattle.hart_turns.specs.Boot.{boot_hart, boot_harts, boot_step, most_s
 ghost use Rattle.hart_turns.specs.Kept.{HasBootRoom, KeepsForm, booting_of};
 
 use crate::events::Kept;
-use crate::running::Running;
+use crate::stepping::Stepping;
 use hart_step::{Core, Event};
 
 /// The most steps of a hart in one boot.
@@ -33,7 +33,7 @@ pub enum BootFault {
     },
 }
 
-impl Running {
+impl Stepping {
     /// One boot step of hart `h`, which answers the pc and the cause of the exception that it met.
     ///
     /// It is made by the call that makes those of a turn, so that the step stands once in the program: a

@@ -1,16 +1,17 @@
 //! Laws of the definitions, each as the contract of a call that does nothing.
 
 ghost use Rattle.hart_turns.specs.FitLaws.{BoardStepsStayFit, BootsStayFit, ClearingStaysFit, DebugResetIsFit, ResetIsFit, TurnsStayFit, TurnsStayRunning};
-ghost use Rattle.hart_turns.specs.Laws.{BoardIsAllowed, BootsEnd, LowestSteps};
+ghost use Rattle.hart_turns.specs.Laws.{BoardIsAllowed, BootsAreLowest, BootsEnd};
 
 /// What the board gives a step is one of the behaviours that the manuals allow.
 pub fn board_is_allowed()
     ensures { BoardIsAllowed }
 {}
 
-/// In a boot it is always the lowest hart in debug mode that steps.
-pub fn boots_step_lowest()
-    ensures { LowestSteps }
+/// In a boot it is always the lowest hart in debug mode that steps: the boot of a machine is what such
+/// steps lead to, and what they lead to is its boot, with the fault that ends it or none.
+pub fn boots_are_lowest()
+    ensures { BootsAreLowest }
 {}
 
 /// A boot leaves no hart in debug mode where it met no fault, and some hart there where it did.

@@ -7,14 +7,14 @@ mod booting;
 mod events;
 mod laws;
 mod machine;
-mod outside;
 mod registers;
-mod running;
+mod stepping;
+mod surroundings;
 #[cfg(test)]
 mod tests;
 
 pub use booting::BootFault;
 pub use laws::{
-    board_is_allowed, board_steps_stay_fit, boots_end_debug, boots_step_lowest, machines_stay_fit,
+    board_is_allowed, board_steps_stay_fit, boots_are_lowest, boots_end_debug, machines_stay_fit,
 };
 pub use machine::{Machine, NoMemory, TurnEnd};

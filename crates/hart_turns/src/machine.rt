@@ -12,8 +12,8 @@ ghost use Rattle.hart_turns.specs.Turn.{taken_after, takes, turned};
 
 use crate::booting::{BootFault, MOST_STEPS};
 use crate::events::{Dropped, EventList, Keeps, Kept};
-use crate::outside::Outside;
-use crate::running::Running;
+use crate::stepping::Stepping;
+use crate::surroundings::Surroundings;
 use board_bus::Board;
 use console::OutBuf;
 use guest_ram::GuestRam;
@@ -38,12 +38,13 @@ pub enum TurnEnd {
 
 /// A machine of one to eight harts, with its devices.
 ///
-/// Contracts see it as a `MachineView`: the machine, and the console bytes and the events of its last
-/// turn or boot. Neither takes memory.
+/// Contracts see it as a `MachineView`: the machine, the console bytes of its last turn or boot, and
+/// the events of its last turn, of which there are none after [`Machine::turn_unseen`] and
+/// [`Machine::boot`]. Neither a turn nor a boot takes memory.
 #[derive(Drop)]
 pub struct Machine {
     shape: Shape,
-    running: Running,
+    stepping: Stepping,
     taken: u64,
 }
 
@@ -55,12 +56,12 @@ impl Model for Machine {
     ghost Value = { MachineView };
 
     ghost view = { λ m. record {
-      machine = record { shape = m.shape; core = m.running.core; board = m.running.outside.board; taken = m.taken };
-      console = m.running.outside.output.bytes;
-      events = m.running.events.items;
+      machine = record { shape = m.shape; core = m.stepping.core; board = m.stepping.outside.board; taken = m.taken };
+      console = m.stepping.outside.output.bytes;
+      events = m.stepping.events.items;
     } };
 
-    ghost invariant = { λ m. IsMachine m.shape m.running };
+    ghost invariant = { λ m. IsMachine m.shape m.stepping };
 }
 
 impl Machine {
@@ -122,9 +123,9 @@ impl Machine {
     {
         let harts = u64::from(shape.harts);
         let events = usize::from(shape.harts) * usize::from(shape.slice) + 1;
-        let running = Running {
+        let stepping = Stepping {
             core,
-            outside: Outside {
+            outside: Surroundings {
                 board: Board::new(shape.harts),
                 output: OutBuf::new(alloc, 256 * (harts * u64::from(MOST_STEPS)) + 1)?,
             },
@@ -132,7 +133,7 @@ impl Machine {
         };
         Ok(Machine {
             shape,
-            running,
+            stepping,
             taken,
         })
     }
@@ -141,20 +142,20 @@ impl Machine {
     pub fn see_fit(&self)
         ensures { IsFit self.now.machine }
     {
-        self.running.core.see_fit();
-        self.running.outside.board.see_fit();
+        self.stepping.core.see_fit();
+        self.stepping.outside.board.see_fit();
     }
 
     /// Whether no hart is in debug mode.
     pub fn running(&self) -> bool
         ensures { result ≡ is_running self.now.machine }
     {
-        self.running.core.in_debug().is_none()
+        self.stepping.core.in_debug().is_none()
     }
 
     /// One turn, in which an input byte is offered, or none. What is kept of the last turn gives way
-    /// to this one's console bytes and events. A machine that is not running is booted first: here
-    /// each of its harts steps.
+    /// to this one's console bytes and events. A caller boots a machine that is not running first;
+    /// this call does not: it makes a turn in which each hart steps, those in debug mode too.
     pub fn turn(&mut self, input: Option<u8>) -> TurnEnd
         requires { self.old.machine.taken < 2_000_000_000_000 }
         ensures end { result ≡ (turned self.old.machine input).end }
@@ -192,7 +193,7 @@ impl Machine {
     {
         let shape = self.shape;
         let end = self
-            .running
+            .stepping
             .turn::<K>(shape.harts, shape.slice, shape.tohost);
         match end {
             TurnEnd::Goes => self.close(input),
@@ -215,11 +216,11 @@ impl Machine {
         ensures at_most_one { self.new.machine.taken ≤ self.old.machine.taken + 1 }
     {
         if let Some(byte) = input {
-            if self.running.outside.board.push_input(byte) {
+            if self.stepping.outside.board.push_input(byte) {
                 self.taken += 1;
             }
         }
-        self.running.outside.board.tick();
+        self.stepping.outside.board.tick();
     }
 
     /// Executes the boot ROM: each hart in debug mode, in order of number, steps until it leaves that
@@ -240,10 +241,10 @@ impl Machine {
         ensures running { IfOk result (λ _. IsTrue (is_running self.new.machine)) }
         ensures held { IfErr result (λ _. IsFalse (is_running self.new.machine)) }
     {
-        self.running.begin();
+        self.stepping.begin();
         let mut steps = 0;
-        let fault = self.running.boot(self.shape.harts, &mut steps);
-        self.running.events.clear();
+        let fault = self.stepping.boot(self.shape.harts, &mut steps);
+        self.stepping.events.clear();
         answer(steps, fault)
     }
 
@@ -251,15 +252,16 @@ impl Machine {
     pub fn output(&self) -> &[u8]
         ensures { result.now ≡ self.now.console }
     {
-        self.running.outside.output.bytes()
+        self.stepping.outside.output.bytes()
     }
 
-    /// The events of the last turn, in order.
+    /// The events of the last turn, in order; none after [`Machine::turn_unseen`] and
+    /// [`Machine::boot`].
     pub fn events(&self) -> &[Event]
         ensures events { result.now ≡ self.now.events }
         ensures formed { All IsEvent result.now }
     {
-        self.running.events.as_slice()
+        self.stepping.events.as_slice()
     }
 
     /// How many input bytes were taken.
@@ -273,21 +275,21 @@ impl Machine {
     pub fn core(&self) -> &Core
         ensures { result.now ≡ self.now.machine.core }
     {
-        &self.running.core
+        &self.stepping.core
     }
 
     /// The harts and their memory, without the rest of the machine.
     pub fn into_core(self) -> Core
         ensures { result ≡ self.machine.core }
     {
-        self.running.core
+        self.stepping.core
     }
 
     /// The devices.
     pub fn board(&self) -> &Board
         ensures { result.now ≡ self.now.machine.board }
     {
-        &self.running.outside.board
+        &self.stepping.outside.board
     }
 
     /// The machine's shape.
@@ -302,7 +304,7 @@ impl Machine {
     pub fn clear_reservations(&mut self)
         ensures { self.new ≡ record self.old { machine = cleared self.old.machine } }
     {
-        self.running.core.clear_reservations();
+        self.stepping.core.clear_reservations();
     }
 }
 

@@ -17,12 +17,12 @@ use trap_rules::{mie, pick};
 
 /// The devices, and the console bytes that they have sent in this turn.
 #[derive(Drop)]
-pub(crate) struct Outside {
+pub(crate) struct Surroundings {
     pub(crate) board: Board,
     pub(crate) output: OutBuf,
 }
 
-impl Answers for Outside {
+impl Answers for Surroundings {
     ghost use Rattle.std.specs.Prelude.{◌<◌, ◌≤◌};
     ghost use Rattle.console.specs.Access.{most_sent};
     ghost use Rattle.console.specs.Output.{spare_of};

@@ -1,5 +1,5 @@
 use Rattle.hart_turns.proofs.BootSteps.{OnItsWay}
-use Rattle.hart_turns.proofs.running.Running.boot_hart.Given as goal
+use Rattle.hart_turns.proofs.stepping.Stepping.boot_hart.Given as goal
 
 -- the steps made so far
 abbrev pub invariant-loop : goal.invariant-loop

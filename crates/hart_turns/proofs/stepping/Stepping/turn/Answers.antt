@@ -3,7 +3,7 @@ use Rattle.std.proofs.Common.{ap, ◌∙◌}
 use Rattle.hart_turns.specs.Kept.{progress_of}
 use Rattle.hart_turns.specs.Turn.{end_of}
 use Rattle.hart_turns.proofs.Blind.{looked_kept, says_same}
-use Rattle.hart_turns.proofs.running.Running.turn.Goals as goal
+use Rattle.hart_turns.proofs.stepping.Stepping.turn.Goals as goal
 
 pub returns-clause-end : goal.returns-clause-end
 returns-clause-end g c = c.look.ensures.end

@@ -1,4 +1,4 @@
-//! A machine within a turn.
+//! A machine within a turn or a boot.
 
 ghost use Rattle.std.specs.Prelude.{◌≡◌, ◌⊎◌, ◌+◌, ◌*◌, ◌<◌, ◌≤◌, ◌%◌, [], All, length};
 ghost use Rattle.guest_ram.specs.Bytes.{HasPart};
@@ -11,19 +11,19 @@ ghost use Rattle.hart_turns.specs.Turn.{after_window, all_steps, end_of, hart_st
 
 use crate::events::{EventList, Keeps};
 use crate::machine::TurnEnd;
-use crate::outside::Outside;
+use crate::surroundings::Surroundings;
 use board_bus::{HostSays, access_laws, host_word};
 use hart_step::{Core, Event};
 
 /// The harts, what stands around them, and the events of this turn.
 #[derive(Drop)]
-pub(crate) struct Running {
+pub(crate) struct Stepping {
     pub(crate) core: Core,
-    pub(crate) outside: Outside,
+    pub(crate) outside: Surroundings,
     pub(crate) events: EventList,
 }
 
-impl Running {
+impl Stepping {
     /// Begins a turn: no byte was sent and nothing has happened in it.
     pub(crate) fn begin(&mut self)
         ensures progress { progress_of self.new ≡ record (progress_of self.old) { console = []; events = [] } }

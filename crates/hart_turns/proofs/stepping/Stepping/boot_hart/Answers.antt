@@ -2,7 +2,7 @@
 use Rattle.std.proofs.Common.{sym, ap, ◌∙◌, arith}
 use Rattle.hart_turns.specs.Boot.{Booted}
 use Rattle.hart_turns.proofs.BootSteps.{begins, goes_on, frees_here, traps_here, long_here}
-use Rattle.hart_turns.proofs.running.Running.boot_hart.Goals as goal
+use Rattle.hart_turns.proofs.stepping.Stepping.boot_hart.Goals as goal
 
 pub loop-init : goal.loop-init
 loop-init c = begins c.args.h c.args.self.now c.args.steps.now

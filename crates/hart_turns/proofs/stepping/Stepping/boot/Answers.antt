@@ -2,8 +2,8 @@
 use Rattle.std.proofs.Common.{◌+◌, sym, ap, ◌∙◌, subst}
 use Rattle.hart_turns.specs.Boot.{Booted}
 use Rattle.hart_turns.proofs.BootHarts.{HaveBooted, none_booted, passed, booted_on, ended_here}
-use Rattle.hart_turns.proofs.running.Running.boot.Goals as goal
-use Rattle.hart_turns.proofs.running.Running.boot.Goals.{then-is_in_debug+in_default, else-is_in_debug}
+use Rattle.hart_turns.proofs.stepping.Stepping.boot.Goals as goal
+use Rattle.hart_turns.proofs.stepping.Stepping.boot.Goals.{then-is_in_debug+in_default, else-is_in_debug}
 
 pub loop-h-init : goal.loop-h-init
 loop-h-init c = none_booted c.args.self.now c.args.steps.now
