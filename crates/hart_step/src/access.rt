@@ -1,4 +1,4 @@
-// Loads and stores.
+//! Loads and stores.
 
 ghost use Rattle.std.specs.Prelude.{◌≡◌, ◌%◌, ◌<◌, ◌≤◌, IfOk};
 ghost use Rattle.guest_ram.specs.Bytes.{IsSize};

@@ -1,4 +1,4 @@
-// What a step asks of its surroundings.
+//! What a step asks of its surroundings.
 
 ghost use Rattle.std.specs.Prelude.{ℕ, List, IfSome, IsTrue, ◌≡◌, ◌<◌, ◌^◌, ◌*◌};
 ghost use Rattle.csr_file.specs.View.{IsGiven};
@@ -12,8 +12,9 @@ use rv_alu::Mode;
 
 /// What answers a step's questions: the board, or a judge that follows another core.
 ///
-/// A step makes at most one device call, and only to a device register that there is. Asking for
-/// anything else leaves every answer of the step as it was.
+/// A step makes at most one device call, and only to a device register that there is: no call asks
+/// so of its caller, the law `steps_stay_fit` says it of every step. Asking for anything else leaves
+/// every answer of the step as it was.
 pub trait Answers {
     /// Whether a hart can make a step now.
     ghost ready: { Self → ℕ → Type 0 };

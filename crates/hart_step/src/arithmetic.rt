@@ -1,4 +1,4 @@
-// Instructions that write a register.
+//! Instructions that write a register.
 
 ghost use Rattle.std.specs.Prelude.{◌≡◌, ◌%◌, ◌<◌};
 ghost use Rattle.rv_alu.specs.Arithmetic.{alu_of, modulo, mul_div_of};

@@ -1,4 +1,4 @@
-// Atomic memory operations.
+//! Atomic memory operations.
 
 ghost use Rattle.std.specs.Prelude.{◌≡◌, ◌⊎◌, ◌%◌, ◌<◌, IfOk};
 ghost use Rattle.guest_ram.specs.Bytes.{IsSize};

@@ -1,4 +1,4 @@
-// Where the pc goes.
+//! Where the pc goes.
 
 ghost use Rattle.std.specs.Prelude.{◌≡◌, ◌%◌, ◌<◌};
 ghost use Rattle.rv_alu.specs.Arithmetic.{modulo};

@@ -1,4 +1,4 @@
-// A core of several harts over one memory.
+//! A core of several harts over one memory.
 
 ghost use Rattle.std.specs.Prelude.{◌≡◌, ◌%◌, ◌<◌, ◌≤◌, ◌&&◌, not, if◌then◌else◌, [], All, IfOk, IfSome, length, map, position, slice_index_or, slice_set};
 ghost use Rattle.std.specs.List.{list_any};

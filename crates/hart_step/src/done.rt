@@ -1,4 +1,4 @@
-// What an instruction shows of itself.
+//! What an instruction shows of itself.
 
 ghost use Rattle.std.specs.Prelude.{◌≡◌, ◌<◌, None, Some};
 ghost use Rattle.guest_ram.specs.Bytes.{IsSize};

@@ -1,4 +1,4 @@
-// What a step shows of itself.
+//! What a step shows of itself.
 
 /// Bytes stored in memory or in a device: `size` bytes (1, 2, 4 or 8) at the physical address `at`,
 /// with the little-endian number `value`, zeros above.

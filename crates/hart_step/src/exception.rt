@@ -1,4 +1,4 @@
-// The exceptions of instructions.
+//! The exceptions of instructions.
 
 ghost use Rattle.std.specs.Prelude.{◌≡◌, ◌<◌};
 ghost use Rattle.hart_step.specs.Effects.{cause_of_call};

@@ -1,4 +1,4 @@
-// The fetch of one instruction's parcels, and its decoding.
+//! The fetch of one instruction's parcels, and its decoding.
 
 ghost use Rattle.std.specs.Prelude.{◌≡◌, ◌%◌, ◌<◌, IfOk, IfSome, IsTrue, Ok};
 ghost use Rattle.guest_ram.specs.Bytes.{has_part, number_at};

@@ -1,4 +1,4 @@
-// What the types of a hart's parts say of it: calls that do nothing, whose clauses are facts.
+//! What the types of a hart's parts say of it: calls that do nothing, whose clauses are facts.
 
 ghost use Rattle.std.specs.Prelude.{◌<◌, ◌^◌, All, IfSome};
 ghost use Rattle.hart_step.specs.Fit.{AreBytes, IsWellFormed};

@@ -1,4 +1,4 @@
-// The state of one hart.
+//! The state of one hart.
 
 ghost use Rattle.std.specs.Prelude.{◌≡◌, ◌<◌, ◌+◌, ◌&&◌, nat_lt, None, slice_index};
 ghost use Rattle.hart_step.specs.DebugReset.{reset_debug_hart};

@@ -1,4 +1,4 @@
-// Laws of the definitions, each as the contract of a call that does nothing.
+//! Laws of the definitions, each as the contract of a call that does nothing.
 
 ghost use Rattle.hart_step.specs.Laws.{DebugResetIsFit, EventsShowStores, HostStaysFit, ResetIsFit, StepsStayFit, UnreservedStaysFit};
 ghost use Rattle.hart_step.specs.Told.{EffectsFollow, StepsFollow};

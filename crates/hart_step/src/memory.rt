@@ -1,4 +1,4 @@
-// Memory as the harts of a core reach it.
+//! Memory as the harts of a core reach it.
 
 ghost use Rattle.std.specs.Prelude.{ℕ, IfSome, ◌/◌, ◌≡◌, ◌==◌, ◌+◌, ◌%◌, ◌^◌, ◌<◌, ◌*◌, IfOk, IsTrue, Ok, length, ◌≤◌, []};
 ghost use Rattle.byteorder.specs.Endian.{little_bytes};

@@ -1,4 +1,4 @@
-// The modes in which a hart makes its accesses, and what they allow.
+//! The modes in which a hart makes its accesses, and what they allow.
 
 ghost use Rattle.std.specs.Prelude.{◌≡◌};
 ghost use Rattle.hart_step.specs.Effects.{is_open, may_fence_translation, may_return_machine, may_return_supervisor, may_wait};

@@ -1,4 +1,4 @@
-// The register that a step looks at by name, beside `mstatus`.
+//! The register that a step looks at by name, beside `mstatus`.
 #![tactic(auto, unfolding(csr_file::specs::Legal::keeps_value, csr_file::specs::Legal::is_kept_number, csr_file::specs::Legal::kept_numbers, csr_file::specs::Kept::kept_in, csr_file::specs::Kept::kept_value, csr_file::specs::Numbers::is_listed))]
 
 ghost use Rattle.std.specs.Prelude.{◌≡◌};

@@ -1,4 +1,4 @@
-// Where a step shows what it did.
+//! Where a step shows what it did.
 
 ghost use Rattle.std.specs.Prelude.{◌≡◌, None, Some};
 ghost use Rattle.hart_step.specs.declared.event.Event.{Event as EventOf};

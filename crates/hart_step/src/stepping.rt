@@ -1,4 +1,4 @@
-// One step of a hart.
+//! One step of a hart.
 
 ghost use Rattle.std.specs.Prelude.{◌≡◌, ◌<◌, ◌≤◌, IsFalse, IsNone};
 ghost use Rattle.trap_rules.specs.Interrupt.{MayCome};

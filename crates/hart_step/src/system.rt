@@ -1,4 +1,4 @@
-// Privileged instructions.
+//! Privileged instructions.
 
 ghost use Rattle.std.specs.Prelude.{IsTrue};
 ghost use Rattle.trap_rules.specs.Return.{debug_returned, machine_returned, resumed_mode, resumed_pc, supervisor_returned};

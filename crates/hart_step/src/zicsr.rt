@@ -1,4 +1,4 @@
-// Instructions that read and write control and status registers.
+//! Instructions that read and write control and status registers.
 
 ghost use Rattle.std.specs.Prelude.{◌≡◌, ◌&&◌, ◌%◌, ◌<◌, IsTrue, IsFalse, IfOk, Some, None, if◌then◌else◌};
 ghost use Rattle.csr_file.specs.Access.{is_present, may_access};
