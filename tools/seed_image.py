@@ -5,6 +5,7 @@ Prints the machine's harts and its slice, and writes the program's 205 words to 
 0x80000000; without FILE it prints them, one a line. It shares nothing with the simulator, so that either may be held
 against the other.
 """
+import re
 import sys
 
 
@@ -51,9 +52,10 @@ def program(seed):
 
 
 def main():
-    seed = int(sys.argv[1])
-    if not 0 <= seed < 2**64:
-        sys.exit("a seed is a number from 0 to 18446744073709551615")
+    word = sys.argv[1] if len(sys.argv) > 1 else ""
+    if not re.fullmatch("0|[1-9][0-9]*", word, re.ASCII) or int(word) >= 2**64:
+        sys.exit("usage: seed_image.py SEED [FILE], where SEED is a number from 0 to 18446744073709551615, as --seed takes it")
+    seed = int(word)
     print(f"harts={1 + seed % 8} slice={1 + seed // 8 % 16}")
     words = program(seed)
     if len(sys.argv) > 2:
