@@ -1,5 +1,5 @@
 -- Bytes of the input that are passed over.
-use Rattle.std.proofs.Common.{◌≡◌, ℕ, zero, suc, ◌+◌, ◌<◌, ◌≤◌, ◌⊎◌, Bool, true, IsTrue, List, [], ◌++◌, take, drop, length, Option, Some, None, IfSome, slice_get, refl, sym, ap, subst, ◌∙◌, arith, inl, inr}
+use Rattle.std.proofs.Common.{◌≡◌, ℕ, zero, suc, ◌+◌, ◌-◌, ◌<◌, ◌≤◌, ◌⊎◌, Bool, true, IsTrue, List, [], ◌++◌, take, drop, length, Option, Some, None, IfSome, slice_get, refl, sym, ap, subst, ◌∙◌, arith, inl, inr, length-append, length-drop}
 use Rattle.std.proofs.lemmas.List.{drop-drop, drop_all, length-take-le}
 use Rattle.std.proofs.Math.Seq.{drop-append_seam}
 use Rattle.std.specs.Io.KnownBytes.{Appends, Consumes, Keeps}
@@ -47,10 +47,16 @@ left_after bytes count passed ended left is end within (inl ends) =
     is ∙ ap (λ (zs : List ℕ). Some zs) (drop_all passed bytes past ∙ sym (drop_all count bytes (omega arith)))
 left_after bytes count passed ended left is end within (inr same) = is ∙ ap (λ (n : ℕ). Some (drop n bytes)) same
 
+-- it has ended where it had fewer bytes
+end_met : (bytes : List ℕ) (count passed : ℕ) (ended : Bool) → passed ≤ length bytes → (ended ≡ true) ⊎ (passed ≡ count)
+    → length bytes < count → IsTrue ended
+end_met bytes count passed ended held (inl ends) few = ends
+end_met bytes count passed ended held (inr same) few = absurd (omega (arith, held, same, few))
+
 pub has_passed : {bytes : List ℕ} {count passed : ℕ} {feed : Feed} {a b : World} → OnlyRead a b
-    → b.left ≡ Some (drop passed bytes) → (IsTrue feed.ended → length bytes ≤ passed) → passed ≤ count
-    → feed.byte ≡ None → (feed.ended ≡ true) ⊎ (passed ≡ count) → HasPassed bytes count feed a b
-has_passed {bytes} {count} {passed} {feed} {a} {b} rest is end within none done =
+    → b.left ≡ Some (drop passed bytes) → (IsTrue feed.ended → length bytes ≤ passed) → passed ≤ length bytes
+    → passed ≤ count → feed.byte ≡ None → (feed.ended ≡ true) ⊎ (passed ≡ count) → HasPassed bytes count feed a b
+has_passed {bytes} {count} {passed} {feed} {a} {b} rest is end held within none done =
     let left : b.left ≡ Some (drop count bytes) = left_after bytes count passed feed.ended b.left is end within done in
     let did : Did bytes 0 (pass_acts count) a b = pass_did count rest left in
     let byte : count + byte_count feed.byte ≡ count + 0 = ap (λ (h : Option ℕ). count + byte_count h) none in
@@ -65,6 +71,7 @@ has_passed {bytes} {count} {passed} {feed} {a} {b} rest is end within none done 
         left_from = did.left_is;
         from_is = λ nothing on. pass_read count;
       };
+      ended = end_met bytes count passed feed.ended held done;
       did = did;
     }
 
@@ -85,6 +92,23 @@ passed_on bytes buf passed got before after is most consumed =
     let here : Consumes (Some (drop passed bytes)) after (take got buf) =
     subst (λ (o : Option (List ℕ)). Consumes o after (take got buf)) is consumed in
     read_on bytes buf passed got after most here
+
+-- so many bytes are within the input
+within_on : (bytes buf : List ℕ) (passed got : ℕ) (after : Option (List ℕ)) → got ≤ length buf → passed ≤ length bytes
+    → Consumes (Some (drop passed bytes)) after (take got buf) → passed + got ≤ length bytes
+within_on bytes buf passed got None most held consumed = absurd consumed
+within_on bytes buf passed got (Some ys) most held consumed =
+    let taken : length (take got buf) ≡ got = length-take-le got buf most in
+    let both : length (drop passed bytes) ≡ length (take got buf ++ ys) = ap length consumed in
+    let joined : length (take got buf ++ ys) ≡ length (take got buf) + length ys = length-append (take got buf) ys in
+    let rest : length (drop passed bytes) ≡ length bytes - passed = length-drop passed bytes in
+    omega (arith, taken, both, joined, rest, held)
+
+pub passed_within : (bytes buf : List ℕ) (passed got : ℕ) (before after : Option (List ℕ))
+    → before ≡ Some (drop passed bytes) → got ≤ length buf → passed ≤ length bytes → Consumes before after (take got buf)
+    → passed + got ≤ length bytes
+passed_within bytes buf passed got before after is most held consumed =
+    within_on bytes buf passed got after most held (subst (λ (o : Option (List ℕ)). Consumes o after (take got buf)) is consumed)
 
 kept_left : (left left' : Option (List ℕ)) (xs : List ℕ) → left ≡ Some xs → Keeps left left' → left' ≡ Some xs
 kept_left None left' xs is keeps = cc

@@ -28,6 +28,7 @@ resumed {bytes} {feed} {a} {b} {c} console taken left sent passes =
     read_joined (send_acts console) (pass_acts taken) 0 ∙ ap (read (pass_acts taken)) (send_unread console 0) in
     record {
       fed = subst (λ (n : ℕ). IsFedFrom bytes taken n feed c.left) (sym place) passed.fed;
+      ended = passed.ended;
       did = did_both (sent bytes 0 left) (subst (λ (n : ℕ). Did bytes n (pass_acts taken) b c) (sym (send_unread console 0)) passed.did);
     }
 

@@ -1,5 +1,5 @@
 -- A run of the code, and one turn more of it.
-use Rattle.std.proofs.Common.{◌≡◌, ◌≢◌, ℕ, zero, suc, ◌+◌, ◌-◌, ◌≤◌, List, [], ◌++◌, Option, Some, None, refl, sym, ap, subst, ◌∙◌, append_assoc, add-one, arith}
+use Rattle.std.proofs.Common.{◌≡◌, ◌≢◌, ℕ, zero, suc, ◌+◌, ◌-◌, ◌≤◌, List, [], ◌++◌, Option, Some, None, refl, sym, ap, subst, ◌∙◌, append_assoc, add-one, arith, inl, inr}
 use Rattle.std.proofs.lemmas.List.{append-nil}
 use Rattle.hart_turns.specs.declared.machine.TurnEnd.{TurnEnd}
 use Rattle.hart_turns.specs.declared.machine.TurnEnd.TheVariants.{Goes, Ended, BadHost}
@@ -12,7 +12,7 @@ use Rattle.outside_acts.proofs.Algebra.{did_both, did_cut_later, did_cut_sooner,
 use Rattle.turn_runs.specs.declared.feed.Feed.{Feed}
 use Rattle.turn_runs.specs.Feeding.{IsFedFrom}
 use Rattle.job_words.specs.Job.{Logs}
-use Rattle.turn_runs.specs.Reaching.{HoldsLogs, HoldsNamed, IsRun, IsShown, Reached}
+use Rattle.turn_runs.specs.Reaching.{HasTurned, HoldsLogs, HoldsNamed, IsRun, IsShown, MayHaveTurned, Reached}
 use Rattle.turn_runs.specs.Run.{Ran, after_turn, goes_on, run, turn_acts, turn_on}
 
 -- ---- runs of the definitions
@@ -140,6 +140,21 @@ run_cut logs bytes from start k n {stop} {m} {feed} {a} {b} {c} within stands cu
     let next : DidCut stop bytes from (run logs bytes start (k + 1)).acts a c =
     subst (λ (r : Ran). DidCut stop bytes from r.acts a c) (sym more) (did_cut_later stands.reached.did here) in
     subst (λ (acts : List Act). DidCut stop bytes from acts a c) (sym longer.1) (did_cut_sooner longer.0 next)
+
+-- a turn of which nothing or all was made
+pub run_stops : (logs : Logs) (bytes : List ℕ) (from : ℕ) (start : MachineState) (k n : ℕ) {m now : MachineState}
+    {feed : Feed} {a b : World} → k + 1 ≤ n → IsRun bytes from (run logs bytes start k) m k Goes feed a b
+    → MayHaveTurned bytes m now → HasTurned logs bytes start n now
+run_stops logs bytes from start k n within stands (inl same) =
+    record { made = k; within = omega (arith, within); machine = same ∙ stands.reached.machine }
+run_stops logs bytes from start k n {m} {now} within stands (inr turned) =
+    let more = run_more logs bytes start k (sym stands.end_is) in
+    record {
+      made = k + 1;
+      within = within;
+      machine = turned ∙ ap (λ (x : MachineState). (turn_on bytes x).machine) stands.reached.machine
+          ∙ sym (ap (λ (r : Ran). r.machine) more);
+    }
 
 -- a run that has ended
 pub run_ends : (logs : Logs) (bytes : List ℕ) (from : ℕ) (start : MachineState) (k n : ℕ) {now : MachineState}

@@ -1,5 +1,5 @@
 -- The input of a run, of which at most one byte was read that no turn has taken yet.
-use Rattle.std.specs.Prelude.{◌≡◌, ◌≤◌, ℕ, zero, suc, ◌+◌, List, [], ◌∷◌, length, drop, IfSome, IsTrue, IsFalse, Option, Some, None, slice_get}
+use Rattle.std.specs.Prelude.{◌≡◌, ◌<◌, ◌≤◌, ℕ, zero, suc, ◌+◌, List, [], ◌∷◌, length, drop, IfSome, IsTrue, IsFalse, Option, Some, None, slice_get}
 use Rattle.std.specs.Io.KnownBytes.{Keeps}
 use Rattle.outside_acts.specs.declared.Stop.{Stop}
 use Rattle.outside_acts.specs.declared.Stop.TheVariants.{Input}
@@ -54,7 +54,9 @@ abbrev pub pass_acts : ℕ → List Act
 pass_acts zero = []
 pass_acts (suc n) = ReadTo (suc n) ∷ []
 
--- so many bytes were passed over, and a turn that is offered the next one finds its place
+-- so many bytes were passed over, and a turn that is offered the next one finds its place. Where the input had fewer,
+-- its end was met
 pub record HasPassed (bytes : List ℕ) (count : ℕ) (feed : Feed) (before after : World) : Type 0 where
   pub fed : IsFedFrom bytes count (read (pass_acts count) 0) feed after.left
+  pub ended : length bytes < count → IsTrue feed.ended
   pub did : Did bytes 0 (pass_acts count) before after

@@ -1,5 +1,5 @@
 -- What a run of the code reaches: a machine, the place of its input, and what was done to all that is outside.
-use Rattle.std.specs.Prelude.{◌≡◌, ℕ, ◌+◌, [], ◌∷◌, List, Option, None, Some, IsSome, ⊤}
+use Rattle.std.specs.Prelude.{◌≡◌, ◌≤◌, ◌⊎◌, ℕ, ◌+◌, [], ◌∷◌, List, Option, None, Some, IsSome, ⊤}
 use Rattle.hart_turns.specs.declared.machine.TurnEnd.{TurnEnd}
 use Rattle.hart_turns.specs.Machine.{MachineState, MachineView}
 use Rattle.outside_io.specs.Content.{IsHeld}
@@ -8,7 +8,7 @@ use Rattle.outside_acts.specs.World.{Counted, Reading, Writing, TheInput, Consol
 use Rattle.turn_runs.specs.declared.feed.Feed.{Feed}
 use Rattle.turn_runs.specs.Feeding.{IsFedFrom}
 use Rattle.job_words.specs.Job.{Logs}
-use Rattle.turn_runs.specs.Run.{Ran, log_acts, turn_acts, turn_on}
+use Rattle.turn_runs.specs.Run.{Ran, log_acts, run, turn_acts, turn_on}
 
 -- ---- over a told input
 
@@ -45,6 +45,18 @@ pub record IsRun (bytes : List ℕ) (from : ℕ) (ran : Ran) (now : MachineState
   pub made_is : made ≡ ran.made
   pub end_is : end ≡ ran.last
   pub reached : Reached bytes from ran.acts ran.machine now feed before after
+
+-- ---- where something failed
+
+-- the turn was not made, or all of it was
+abbrev pub MayHaveTurned : List ℕ → MachineState → MachineState → Type 0
+MayHaveTurned bytes m now = (now ≡ m) ⊎ (now ≡ (turn_on bytes m).machine)
+
+-- the machine stands after so many of these turns, whole ones
+pub record HasTurned (logs : Logs) (bytes : List ℕ) (m : MachineState) (turns : ℕ) (now : MachineState) : Type 0 where
+  pub made : ℕ
+  pub within : made ≤ turns
+  pub machine : now ≡ (run logs bytes m made).machine
 
 -- ---- logs
 

@@ -5,7 +5,7 @@ ghost use Rattle.hart_turns.specs.declared.machine.TurnEnd.TheVariants.{Goes};
 ghost use Rattle.hart_turns.specs.Machine.{is_running};
 ghost use Rattle.outside_acts.specs.Acts.{DidCut};
 ghost use Rattle.outside_acts.specs.Calls.{Caused, GoesQuietly};
-ghost use Rattle.turn_runs.specs.Reaching.{HoldsLogs, IsRun, OverInput, log_uses};
+ghost use Rattle.turn_runs.specs.Reaching.{HasTurned, HoldsLogs, IsRun, OverInput, log_uses};
 ghost use Rattle.turn_runs.specs.Run.{run as run_of};
 
 use crate::feed::Feed;
@@ -41,7 +41,8 @@ pub fn has_ended(end: TurnEnd) -> bool
 ///
 /// # Errors
 ///
-/// What failed: the input, the console or the file of a log; or `NoMemory`.
+/// What failed: the input, the console or the file of a log; or `NoMemory`. The machine stands after a whole turn, whose
+/// bytes and events may not have been written, or not all.
 pub fn run<W: Outside>(
     alloc: Global,
     machine: &mut Machine,
@@ -57,6 +58,8 @@ pub fn run<W: Outside>(
     ensures cut { IfErr result (λ stop. OverInput machine.old.machine feed.old (W.world outside.old) (λ bytes from.
         DidCut stop bytes from (run_of logs.now bytes machine.old.machine turns).acts
         (W.world outside.old) (W.world outside.new))) }
+    ensures turned { IfErr result (λ stop. OverInput machine.old.machine feed.old (W.world outside.old) (λ bytes from.
+        HasTurned logs.now bytes machine.old.machine turns machine.new.machine)) }
     ensures few { IfOk result (λ ran. ran.made ≤ turns) }
     ensures takes_few { machine.new.machine.taken ≤ machine.old.machine.taken + turns }
     ensures running { IsTrue (is_running machine.old.machine) → IsTrue (is_running machine.new.machine) }

@@ -7,7 +7,7 @@ ghost use Rattle.hart_turns.specs.Turn.{turned};
 ghost use Rattle.outside_acts.specs.Acts.{DidCut, ReadTo};
 ghost use Rattle.outside_acts.specs.Calls.{Caused, Does, GoesQuietly, Only, Stops};
 ghost use Rattle.outside_acts.specs.World.{Console, TheInput};
-ghost use Rattle.turn_runs.specs.Reaching.{HoldsLogs, IsShown, IsTurned, OverInput, log_uses};
+ghost use Rattle.turn_runs.specs.Reaching.{HoldsLogs, IsShown, IsTurned, MayHaveTurned, OverInput, log_uses};
 ghost use Rattle.turn_runs.specs.Run.{log_acts, send_acts, trace_lines, turn_acts, turn_on};
 
 use crate::feed::Feed;
@@ -49,6 +49,7 @@ fn make_turn<W: Outside>(
     ensures cut { IfErr result (λ stop. OverInput machine.old.machine feed.old (W.world outside.old) (λ bytes from.
         DidCut stop bytes from (ReadTo (machine.old.machine.taken + 1) ∷ [])
         (W.world outside.old) (W.world outside.new))) }
+    ensures unmoved { IfErr result (λ stop. machine.new.machine ≡ machine.old.machine) }
     ensures cause { Caused (Only TheInput) result (W.world outside.old) (W.world outside.new) }
     ensures calm { W.quiet outside.old → GoesQuietly (W.quiet outside.new) result }
     ensures takes_one { machine.new.machine.taken ≤ machine.old.machine.taken + 1 }
@@ -135,6 +136,8 @@ pub(crate) fn run_turn<W: Outside>(
     ensures cut { IfErr result (λ stop. OverInput machine.old.machine feed.old (W.world outside.old) (λ bytes from.
         DidCut stop bytes from (turn_acts logs.now machine.old.machine (turn_on bytes machine.old.machine))
         (W.world outside.old) (W.world outside.new))) }
+    ensures whole { IfErr result (λ stop. OverInput machine.old.machine feed.old (W.world outside.old) (λ bytes from.
+        MayHaveTurned bytes machine.old.machine machine.new.machine)) }
     ensures cause { Caused (log_uses logs.now) result (W.world outside.old) (W.world outside.new) }
     ensures calm { W.quiet outside.old → HoldsLogs logs.now (W.world outside.old) →
         GoesQuietly (W.quiet outside.new) result }

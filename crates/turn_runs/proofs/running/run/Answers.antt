@@ -1,7 +1,7 @@
 -- The run goes on by one turn, ends in it, is cut in it, or has made all its turns.
 use Rattle.std.proofs.Common.{◌+◌, refl, ◌∙◌, arith}
 use Rattle.outside_acts.proofs.Causes.{none_passed, none_passed_both}
-use Rattle.turn_runs.proofs.Runs.{goes_at, held_logs, run_all, run_cut, run_ends, run_first, run_step}
+use Rattle.turn_runs.proofs.Runs.{goes_at, held_logs, run_all, run_cut, run_ends, run_first, run_step, run_stops}
 use Rattle.turn_runs.proofs.running.run.Goals as goal
 
 pub loop-made-init : goal.loop-made-init
@@ -21,6 +21,11 @@ returns-in-Err-clause-cut g c = λ bytes from fed.
     let stands = c.loop-made.invariant.stands bytes from fed in
     let cut = c.in-Err.ensures.cut bytes _ stands.reached.fed in
     run_cut _ bytes from _ c.loop-made.made c.args.turns (omega arith) stands cut
+
+pub returns-in-Err-clause-turned : goal.returns-in-Err-clause-turned
+returns-in-Err-clause-turned g c = λ bytes from fed.
+    let stands = c.loop-made.invariant.stands bytes from fed in
+    run_stops _ bytes from _ c.loop-made.made c.args.turns (omega arith) stands (c.in-Err.ensures.whole bytes _ stands.reached.fed)
 
 pub returns-then-has_ended-clause-ran : goal.returns-then-has_ended-clause-ran
 returns-then-has_ended-clause-ran g c = λ bytes from fed.

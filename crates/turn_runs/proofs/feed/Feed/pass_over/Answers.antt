@@ -1,7 +1,7 @@
 -- A piece was passed over, the input has ended, or all was passed over.
 use Rattle.std.proofs.Common.{◌≤◌, length, ◌∙◌, arith, inl, inr, length-take}
 use Rattle.outside_acts.proofs.Causes.{none_passed_both}
-use Rattle.turn_runs.proofs.Passing.{has_passed, only_read_both, pass_cut, passed_on}
+use Rattle.turn_runs.proofs.Passing.{has_passed, only_read_both, pass_cut, passed_on, passed_within}
 use Rattle.turn_runs.proofs.feed.Feed.pass_over.Goals as goal
 
 pub returns-in-Err-clause-cut : goal.returns-in-Err-clause-cut
@@ -23,7 +23,8 @@ loop-passed-preserved g c =
           let before = inv.stands bytes is in
           let bytes_read = c.in-Ok.ensures.bytes.0 in
           let now = passed_on bytes c.read.new.buf c.loop-passed.passed c.in-Ok.got _ _ before.0 most bytes_read in
-          (now, λ yes. let past = before.1 yes in omega (arith, past));
+          let held = passed_within bytes c.read.new.buf c.loop-passed.passed c.in-Ok.got _ _ before.0 most before.2 bytes_read in
+          (now, (λ yes. let past = before.1 yes in omega (arith, past)), held);
       within = omega (arith, most, long, length-take c.if-left.size c.loop-passed.buffer);
       byte = inv.byte;
       rest = only_read_both inv.rest c.in-Ok.ensures.rest;
@@ -37,9 +38,9 @@ loop-passed-preserved g c =
 pub returns-else-not-self-clause-passed : goal.returns-else-not-self-clause-passed
 returns-else-not-self-clause-passed g c = λ bytes is.
     let inv = c.loop-passed.invariant in
-    has_passed inv.rest (inv.stands bytes is).0 (inv.stands bytes is).1 inv.within inv.byte (inl c.if-not-self.false)
+    has_passed inv.rest (inv.stands bytes is).0 (inv.stands bytes is).1 (inv.stands bytes is).2 inv.within inv.byte (inl c.if-not-self.false)
 
 pub returns-after-loop-passed-clause-passed : goal.returns-after-loop-passed-clause-passed
 returns-after-loop-passed-clause-passed g c = λ bytes is.
     let inv = c.loop-passed.invariant in
-    has_passed inv.rest (inv.stands bytes is).0 (inv.stands bytes is).1 inv.within inv.byte (inr (omega arith))
+    has_passed inv.rest (inv.stands bytes is).0 (inv.stands bytes is).1 (inv.stands bytes is).2 inv.within inv.byte (inr (omega arith))

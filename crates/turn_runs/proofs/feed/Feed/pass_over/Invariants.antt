@@ -12,7 +12,7 @@ invariant-loop-passed g l =
     let now : World = g.W.Outside.world l.outside in
     record {
       stands : (bytes : List ℕ) → before.left ≡ Some bytes
-          → (now.left ≡ Some (drop l.passed bytes)) × (IsTrue l.self.ended → length bytes ≤ l.passed);
+          → (now.left ≡ Some (drop l.passed bytes)) × (IsTrue l.self.ended → length bytes ≤ l.passed) × (l.passed ≤ length bytes);
       within : l.passed ≤ l.count;
       byte : l.self.byte ≡ None;
       rest : OnlyRead before now;
