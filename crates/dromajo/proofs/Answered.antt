@@ -86,13 +86,7 @@ settled_ends Starved job held input status line a b settled left = absurd settle
 settled_ends Never job held input status line a b settled left = absurd settled
 
 did_outcome : (job : Option Job) (held : Held) (input : List ℕ) (before answered : Status) (line : List ℕ) (a b : World) → IsBefore before answered → JobEnds job held input before line a b → DidOutcome job held input answered a b
-did_outcome job held input before answered line a b same ends = record {
-  outcome = ends.outcome;
-  is = ends.is;
-  status = subst (λ (s : Status). IsBefore s answered) ends.status_is same;
-  did = ends.did;
-  sound = ends.sound;
-}
+did_outcome job held input before answered line a b same ends = record { status = before; line = line; ends = ends; answers = same }
 
 pub finished_leaves : (job : Option Job) (before answered : Status) (line : List ℕ) (a b : World) → IsFinished answered → IsBefore before answered → JobLeaves job before line a b → Leaves job answered a b
 finished_leaves job before answered line a b finished same left =

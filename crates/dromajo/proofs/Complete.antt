@@ -1,5 +1,5 @@
 -- What a job may be answered with where nothing failed.
-use Rattle.std.proofs.Common.{◌≡◌, ℕ, ◌==◌, Bool, true, false, if◌then◌else◌, List, Option, Some, None, IfSome, Result, Ok, Err, refl, sym, ap, subst, inl, inr}
+use Rattle.std.proofs.Common.{◌≡◌, ℕ, ◌==◌, Bool, true, false, if◌then◌else◌, List, Option, Some, None, IfSome, Result, Ok, Err, refl, sym, ap, subst, ◌∙◌, inl, inr}
 use Rattle.outside_io.specs.Content.{Held}
 use Rattle.outside_acts.specs.World.{Reading, Writing, TheInput, Console, World}
 use Rattle.checkpoint_run.specs.Saving.{Saved}
@@ -71,7 +71,7 @@ over_all P (Some c) all = all c
 
 finished_may : (job : Option Job) (answered : Status) (a b : World) → ((outcome : Status) → before_by (class_of answered) outcome answered → outcome ≡ answered) → Leaves job answered a b → MayAnswer job a answered
 finished_may job answered a b same left =
-    told_map _ _ a.held (λ held. told_map _ _ a.left (λ input did. inr (subst (EndsJob job held) (same did.outcome.status did.status) (ends_job job held input did.outcome did.is)))) left
+    told_map _ _ a.held (λ held. told_map _ _ a.left (λ input did. inr (subst (EndsJob job held) (sym did.ends.status_is ∙ same did.status did.answers) (ends_job job held input did.ends.outcome did.ends.is)))) left
 
 may_by : (class : Class) (job : Option Job) (answered : Status) (a b : World) (report report' : Reporting) → class ≡ class_of answered → NoneRose a b report report' → cause_by class answered job a b report report'
     → (finishes class → Leaves job answered a b) → MayAnswer job a answered

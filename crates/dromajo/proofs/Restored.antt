@@ -112,4 +112,4 @@ over_held (Some held) (Some input) Says Then map says = map held input refl says
 pub finished_restores : (job : Option Job) (answered : Status) (a b : World) → Leaves job answered a b → RestoresSaved job a b
 finished_restores job answered a b leaves =
     over_held a.held a.left (λ held input. DidOutcome job held input answered a b) (λ held input. IfSome b.held (λ files. JobRestores job held input files))
-    (λ held input h did. files_restore job held input did.outcome a.held b.held h did.is did.sound did.did.files) leaves
+    (λ held input h did. files_restore job held input did.ends.outcome a.held b.held h did.ends.is did.ends.sound did.ends.did.files) leaves

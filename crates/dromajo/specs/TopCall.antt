@@ -89,15 +89,14 @@ leaves_by class job held input status line before now = ⊥
 abbrev pub JobLeaves : Option Job → Status → List ℕ → World → World → Type 0
 JobLeaves job status line before now = OverTold before (λ held input. leaves_by (class_of status) job held input status line before now)
 
--- what an outcome of the job says: its status, before the report, and all its acts; what was saved may be restored
+-- the job ended, with a status and a line before the report; then this status was answered
 pub record DidOutcome (job : Option Job) (held : Held) (input : List ℕ) (answered : Status) (before now : World) : Type 0 where
-  pub outcome : Outcome
-  pub is : IsOutcome job held input outcome
-  pub status : IsBefore outcome.status answered
-  pub did : Did input 0 outcome.acts before now
-  pub sound : IfSome outcome.saved IsSound
+  pub status : Status
+  pub line : List ℕ
+  pub ends : JobEnds job held input status line before now
+  pub answers : IsBefore status answered
 
--- a finished call leaves what an outcome of its job says
+-- a finished call leaves what its job leaves that ended
 abbrev pub Leaves : Option Job → Status → World → World → Type 0
 Leaves job answered before now = OverTold before (λ held input. DidOutcome job held input answered before now)
 
