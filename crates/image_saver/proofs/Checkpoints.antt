@@ -1,15 +1,17 @@
 -- The checkpoint that files define, case by case.
-use Rattle.std.proofs.Common.{◌≡◌, ℕ, ◌<◌, List, length, Option, Some, None, IfSome, Ok, Err, true, nat_lt, subst, refl, ◌∙◌, arith}
+use Rattle.std.proofs.Common.{◌≡◌, ℕ, ◌<◌, List, length, Option, Some, None, IfSome, Ok, Err, true, nat_lt, subst, refl, sym, ap, ◌∙◌, arith}
 use Rattle.outside_io.specs.Causes.{Rose}
 use Rattle.outside_io.specs.Content.{Held, file_of}
 use Rattle.sim_config.specs.declared.fault.ConfigFault.TheVariants as config_fault
 use Rattle.sim_config.specs.declared.values.Meta.{Meta}
+use Rattle.sim_config.specs.Ranges.{IsMeta}
 use Rattle.sim_config.specs.Reading.{longest_text, meta_of, text_fault}
 use Rattle.image_saver.specs.declared.fault.LoadFault.{LoadFault}
 use Rattle.image_saver.specs.declared.fault.LoadFault.TheVariants as load_fault
+use Rattle.image_saver.specs.declared.fault.Part.{Part}
 use Rattle.image_saver.specs.declared.fault.Part.TheVariants.{Mainram, Bootram}
-use Rattle.image_saver.specs.Checkpoint.{checkpoint_of, meta_file, of_length, part_file, with_meta}
-use Rattle.image_saver.specs.Refusal.{LoadIsRefused}
+use Rattle.image_saver.specs.Checkpoint.{checkpoint_of, meta_file, of_length, part_file, part_length, with_meta}
+use Rattle.image_saver.specs.Refusal.{IsOfPart, IsOfText, IsOfValues, LoadIsRefused}
 
 pub told_three : {C : Type 0} (P Q R S : C → Type 0) (told : Option C) → ((c : C) → P c → Q c → R c → S c) → IfSome told P → IfSome told Q → IfSome told R → IfSome told S
 told_three P Q R S None all p q r = tt
@@ -53,3 +55,19 @@ pub accepted : (held : Held) (name : List ℕ) (meta : Meta) (ram rom : List ℕ
     → checkpoint_of held name ≡ Ok (record { meta = meta; ram = ram; rom = rom })
 unfolding checkpoint_of
 accepted held name meta ram rom of_meta of_ram of_rom = rw of_meta (rw of_ram (rw of_rom refl))
+
+-- ---- lengths that are refused, whatever the files hold
+
+pub text_names : (fault : LoadFault) → IsOfText fault → IsOfValues fault
+text_names load_fault.Failed is = tt
+text_names (load_fault.Meta fault) is = tt
+text_names (load_fault.Length part want have) is = absurd is
+text_names load_fault.NoMemory is = tt
+
+pub part_names : (part : Part) (meta : Meta) (want : ℕ) (fault : LoadFault) → IsMeta meta → want ≡ part_length part meta
+    → IsOfPart part want fault → IsOfValues fault
+part_names part meta want load_fault.Failed fits is_want is = tt
+part_names part meta want (load_fault.Meta fault) fits is_want is = absurd is
+part_names part meta want (load_fault.Length refused asked have) fits is_want is =
+    (meta, fits, is.1 ∙ is_want ∙ sym (ap (λ (p : Part). part_length p meta) is.0), λ same. is.2 (same ∙ is.1))
+part_names part meta want load_fault.NoMemory fits is_want is = tt

@@ -42,6 +42,11 @@ abbrev pub with_meta : Result Meta ConfigFault → Result Meta LoadFault
 with_meta (Ok meta) = Ok meta
 with_meta (Err fault) = Err (load_fault.Meta fault)
 
+-- how many bytes these values give a part
+abbrev pub part_length : Part → Meta → ℕ
+part_length Mainram meta = meta.shape.ram
+part_length Bootram meta = meta.rom
+
 -- the bytes of a part, which are as many as the meta text says
 abbrev pub of_length : Part → ℕ → List ℕ → Result (List ℕ) LoadFault
 of_length part want bytes = if length bytes == want then Ok bytes else Err (load_fault.Length part want (length bytes))

@@ -8,7 +8,7 @@ ghost use Rattle.sim_config.specs.Reading.{meta_of};
 ghost use Rattle.machine_start.specs.Reading.{OnlyReads};
 ghost use Rattle.image_saver.specs.Checkpoint.{IsCheckpoint, checkpoint_of, meta_file, of_length, part_file, seen, with_meta};
 ghost use Rattle.image_saver.specs.Quiet.{HoldsCheckpoint, LoadsQuietly};
-ghost use Rattle.image_saver.specs.Refusal.{LoadIsRefused};
+ghost use Rattle.image_saver.specs.Refusal.{IsOfPart, IsOfText, IsOfValues, LoadIsRefused};
 
 use crate::fault::{LoadFault, Part};
 use crate::names::{meta_file, part_file};
@@ -36,6 +36,7 @@ fn load_meta<F: Files>(alloc: Global, files: &mut F, name: &str) -> Result<Meta,
     ensures refused { IfErr result (λ fault. LoadIsRefused fault
         (IfSome (F.held files.old) (λ held. with_meta (meta_of (file_of held (meta_file name.now))) ≡ Err fault))
         (F.read_faults files.old) (F.read_faults files.new)) }
+    ensures lengths { IfErr result IsOfText }
     ensures ranges { IfOk result IsMeta }
     ensures leaves { OnlyReads F.held F.read_faults F.write_faults files.old files.new result }
     ensures calm { F.quiet files.old → IsHeld (F.held files.old) (meta_file name.now) → LoadsQuietly (F.quiet files.new) result }
@@ -53,6 +54,7 @@ fn check_length<F: Files>(files: &mut F, file: &str, part: Part, want: u64) -> R
     ensures refused { IfErr result (λ fault. LoadIsRefused fault
         (IfSome (F.held files.old) (λ held. of_length part want (file_of held file.now) ≡ Err fault))
         (F.read_faults files.old) (F.read_faults files.new)) }
+    ensures lengths { IfErr result (IsOfPart part want) }
     ensures leaves { OnlyReads F.held F.read_faults F.write_faults files.old files.new result }
     ensures calm { F.quiet files.old → IsHeld (F.held files.old) file.now → LoadsQuietly (F.quiet files.new) result }
 {
@@ -76,6 +78,7 @@ fn load_part<F: Files>(
     ensures refused { IfErr result (λ fault. LoadIsRefused fault
         (IfSome (F.held files.old) (λ held. length (file_of held file.now) ≡ length buf.old → ⊥))
         (F.read_faults files.old) (F.read_faults files.new)) }
+    ensures lengths { IfErr result (IsOfPart part (length buf.old)) }
     ensures leaves { OnlyReads F.held F.read_faults F.write_faults files.old files.new result }
     ensures calm { F.quiet files.old → IsHeld (F.held files.old) file.now → LoadsQuietly (F.quiet files.new) result }
 {
@@ -106,6 +109,7 @@ fn load_image<F: Files>(
     ensures refused { IfErr result (λ fault. LoadIsRefused fault
         (IfSome (F.held files.old) (λ held. of_length Part.Mainram len (file_of held (part_file Part.Mainram name.now)) ≡ Err fault))
         (F.read_faults files.old) (F.read_faults files.new)) }
+    ensures lengths { IfErr result (IsOfPart Part.Mainram len) }
     ensures length { IfOk result (λ ram. length ram ≡ len) }
     ensures leaves { OnlyReads F.held F.read_faults F.write_faults files.old files.new result }
     ensures calm { F.quiet files.old → IsHeld (F.held files.old) (part_file Part.Mainram name.now) →
@@ -130,6 +134,7 @@ fn load_rom<F: Files>(
     ensures refused { IfErr result (λ fault. LoadIsRefused fault
         (IfSome (F.held files.old) (λ held. of_length Part.Bootram len (file_of held (part_file Part.Bootram name.now)) ≡ Err fault))
         (F.read_faults files.old) (F.read_faults files.new)) }
+    ensures lengths { IfErr result (IsOfPart Part.Bootram len) }
     ensures length { IfOk result (λ rom. length rom.items ≡ len) }
     ensures leaves { OnlyReads F.held F.read_faults F.write_faults files.old files.new result }
     ensures calm { F.quiet files.old → IsHeld (F.held files.old) (part_file Part.Bootram name.now) →
@@ -155,6 +160,7 @@ pub fn load<F: Files>(alloc: Global, files: &mut F, name: &str) -> Result<Loaded
     ensures refused { IfErr result (λ fault. LoadIsRefused fault
         (IfSome (F.held files.old) (λ held. checkpoint_of held name.now ≡ Err fault))
         (F.read_faults files.old) (F.read_faults files.new)) }
+    ensures lengths { IfErr result IsOfValues }
     ensures fit { IfOk result (λ loaded. IsCheckpoint (seen loaded)) }
     ensures leaves { OnlyReads F.held F.read_faults F.write_faults files.old files.new result }
     ensures calm { F.quiet files.old → HoldsCheckpoint (F.held files.old) name.now →
